@@ -1,0 +1,24 @@
+//! What the crates of shelf share: elements and their one spelling, cuts and ranges between elements, the contract of
+//! rows by key, the counter of base calls, and the traits of the outside with their fakes in memory.
+//!
+//! An element is a whole number of 64 bits or a word of at most 24 bytes. Each element has one spelling, so a text
+//! spells one element or none.
+#![tactic(auto)]
+
+mod counting;
+mod cuts;
+mod elements;
+mod outside;
+mod rows;
+mod spans;
+mod spelling;
+mod words;
+
+pub use counting::Steps;
+pub use cuts::Cut;
+pub use elements::{Elem, natural_order, same};
+pub use outside::{Failed, Inputs, NoMemory, Sink};
+pub use rows::Keyed;
+pub use spans::Span;
+pub use spelling::{read_elem, read_number, write_elem};
+pub use words::{Word, continues_word, is_digit, starts_word};
