@@ -6,3 +6,6 @@ pub mod Spelling
 pub mod Rows
 pub mod Keyed
 pub mod Outside
+pub mod Memory
+pub mod MemoryFiles
+pub mod MemoryInside

@@ -8,6 +8,7 @@
 mod counting;
 mod cuts;
 mod elements;
+mod memory;
 mod outside;
 mod rows;
 mod spans;
@@ -17,6 +18,7 @@ mod words;
 pub use counting::Steps;
 pub use cuts::Cut;
 pub use elements::{Elem, natural_order, same};
+pub use memory::{MemInputs, MemSink};
 pub use outside::{Failed, Inputs, NoMemory, Sink};
 pub use rows::Keyed;
 pub use spans::Span;

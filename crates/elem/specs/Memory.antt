@@ -1,0 +1,24 @@
+-- Inputs and a sink in memory, as contracts see them.
+use Rattle.std.specs.Prelude.{◌≡◌, ℕ, ◌+◌, ◌<◌, ◌≤◌, List, [], ◌∷◌, length, drop, Option, None, Some, get_or, nat_eq}
+use Rattle.std.specs.Map.{lookup}
+use Rattle.std.specs.Cmp.Lexicographic.{pointwise}
+
+-- what standard input and each file has, what `read` has still to give, and what was counted
+pub record Supply : Type 0 where
+  pub standard : List ℕ
+  pub files : List (List ℕ × List ℕ)
+  pub left : List ℕ
+  pub given : ℕ
+  pub open_faults : ℕ
+  pub read_faults : ℕ
+  pub failed_path : Option (List ℕ)
+
+-- the bytes of the first file of a name
+abbrev pub bytes_named : List (List ℕ × List ℕ) → List ℕ → Option (List ℕ)
+bytes_named files name = lookup (λ known. pointwise nat_eq known name) files
+
+-- what was taken, how much room there was at first, and how often a piece did not fit
+pub record Filled : Type 0 where
+  pub taken : List ℕ
+  pub room : ℕ
+  pub faults : ℕ

@@ -1,0 +1,9 @@
+pub mod Shapes
+pub mod Kinds
+pub mod Items
+pub mod Steps
+pub mod Refusals
+pub mod Calls
+pub mod Words
+pub mod Views
+pub mod Texts
