@@ -3,6 +3,13 @@ pub mod WordInside
 pub mod Elements
 pub mod ElementLaws
 pub mod Spelling
+pub mod Orders
+pub mod OrderLaws
+pub mod Cuts
+pub mod CutLaws
+pub mod Spans
+pub mod Places
+pub mod PlaceLaws
 pub mod Rows
 pub mod Keyed
 pub mod Outside

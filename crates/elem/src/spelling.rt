@@ -59,3 +59,14 @@ fn short_text(bytes: &[u8]) -> ArrayVec<u8, 24>
     let _ = text.try_extend_from_slice(bytes);
     text
 }
+
+/// The number of bytes of the one spelling of an element.
+pub(crate) fn text_length(e: &Elem) -> usize
+    ensures { result ≡ length (spelling e.now) }
+{
+    let mut digits = Buffer::new();
+    match e {
+        Elem::Int(number) => digits.format(*number).len(),
+        Elem::Text(word) => word.bytes().len(),
+    }
+}
