@@ -1,4 +1,5 @@
 pub mod Bases
+pub mod Edits
 pub mod Nodes
 pub mod Stored
 pub mod SlotView

@@ -72,10 +72,10 @@ without_temporary s = record { places = s.places; nodes = take s.lasting s.nodes
 -- the store with another base, of a kind and without rows, and its node
 abbrev pub with_base : Stored → Kind → Stored
 with_base s kind = record {
-    places = s.places ++ there (empty_base kind) ∷ [];
-    nodes = take s.lasting s.nodes ++ made.Base (length s.places) ∷ [];
-    lasting = s.lasting + 1;
-  }
+  places = s.places ++ there (empty_base kind) ∷ [];
+  nodes = take s.lasting s.nodes ++ made.Base (length s.places) ∷ [];
+  lasting = s.lasting + 1;
+}
 
 -- the store with another temporary node
 abbrev pub with_node : Stored → Made → Stored

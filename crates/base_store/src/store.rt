@@ -1,10 +1,10 @@
-ghost use Rattle.std.specs.Prelude.{◌≡◌, ◌+◌, ◌++◌, ◌∷◌, [], ◌<◌, ◌^◌, length, OnOk, OnErr, IfOk, IfErr, Some, slice_get};
+ghost use Rattle.std.specs.Prelude.{◌≡◌, ◌+◌, ◌++◌, ◌∷◌, [], ◌<◌, ◌≤◌, ◌^◌, length, OnOk, OnErr, IfOk, IfErr, Some, slice_get};
 ghost use Rattle.base_store.specs.Bases.{rows_of, IsOfKind};
 ghost use Rattle.base_store.specs.Stored.{AllThere, IsThere, IsAway, there, away, with_rows, world_of, view_in, with_base, with_node, with_place, without_temporary};
 ghost use Rattle.base_store.specs.Unfolding.{Unfolds};
 ghost use Rattle.base_store.specs.Nodes.{IsBelow};
 ghost use Rattle.base_store.specs.declared.store.Made.TheVariants.{Over as step_node};
-ghost use Rattle.view_steps.specs.Views.{base, base_at, base_under, shape_at, flags_at};
+ghost use Rattle.view_steps.specs.Views.{base, base_at, base_under, path, shape_at, flags_at};
 
 use crate::{AnyRef, Base, BaseId, Node};
 use arrayvec::ArrayVec;
@@ -97,8 +97,9 @@ impl Store {
             return Err(Refusal::NoMemory);
         }
         let number = self.nodes.len();
+        let base_number = self.slots.as_slice().len();
         self.temporary.clear();
-        self.nodes.push_reserved(Made::Base(self.slots.len()));
+        self.nodes.push_reserved(Made::Base(base_number));
         self.slots.push_reserved(Slot {
             kind,
             change: 0,
@@ -146,11 +147,7 @@ impl Store {
         ensures at { slice_get self.now.nodes n ≡ Some result.now }
         ensures below { IsBelow (length self.now.places) n result.now }
     {
-        if n < self.nodes.len() {
-            &self.nodes[n]
-        } else {
-            &self.temporary.as_slice()[n - self.nodes.len()]
-        }
+        node_among(self.nodes.as_slice(), self.temporary.as_slice(), n)
     }
 
     /// The base under a node.
@@ -162,6 +159,18 @@ impl Store {
         match self.node(n) {
             Node::Base(b) => b,
             Node::Step { parent, .. } => self.base_of(parent),
+        }
+    }
+
+    /// How many steps lead to a node.
+    pub fn path(&self, n: AnyRef) -> usize
+        requires { n < length self.now.nodes }
+        ensures path { result ≡ path (view_in self.now n) }
+        ensures within { result ≤ n }
+    {
+        match self.node(n) {
+            Node::Base(_) => 0,
+            Node::Step { parent, .. } => self.path(parent) + 1,
         }
     }
 
@@ -189,7 +198,11 @@ impl Store {
     {
         match self.node(n) {
             Node::Base(b) => self.base_flags(b),
-            Node::Step { step, parent } => flags_after(&self.shape(parent), step, self.flags_of(parent)),
+            Node::Step { step, parent } => flags_after(
+                &self.shape(parent),
+                step,
+                self.flags_of(parent),
+            ),
         }
     }
 
@@ -259,5 +272,17 @@ impl Store {
         if structural {
             slot.change += 1;
         }
+    }
+}
+
+/// The node of a number among the lasting ones, or behind them among the temporary ones.
+fn node_among<'a>(lasting: &'a [Made], temporary: &'a [Made], n: usize) -> &'a Made
+    requires { n < length (lasting.now ++ temporary.now) }
+    ensures { slice_get (lasting.now ++ temporary.now) n ≡ Some result.now }
+{
+    if n < lasting.len() {
+        &lasting[n]
+    } else {
+        &temporary[n - lasting.len()]
     }
 }

@@ -77,6 +77,11 @@ abbrev pub base_under : View → ℕ
 base_under (base b) = b
 base_under (over step v) = base_under v
 
+-- how many steps lead to a view
+abbrev pub path : View → ℕ
+path (base b) = 0
+path (over step v) = path v + 1
+
 -- a step that the table doesn't have leaves the shape
 abbrev pub shape_after : Shape → Option Shape → Shape
 shape_after below given = unwrap_or given below

@@ -1,0 +1,9 @@
+pub mod ThreadLemmas
+pub mod NthLemmas
+pub mod PlacesLemmas
+pub mod IdLemmas
+pub mod KeyedLemmas
+pub mod GroupLemmas
+pub mod LinkedMapLemmas
+pub mod LinkedMapSteps
+pub mod HeldRows

@@ -1,0 +1,5 @@
+pub mod Thread
+pub mod Places
+pub mod Group
+pub mod LinkedMap
+pub mod LastRow

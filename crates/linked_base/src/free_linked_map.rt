@@ -1,0 +1,170 @@
+ghost use Rattle.std.specs.Prelude.{◌≡◌, ◌⊎◌, List, [], ◌∷◌, ◌++◌, length, Some, OnOk, OnErr, IfOk};
+ghost use Rattle.elem.specs.Elements.{same};
+ghost use Rattle.elem.specs.Rows.{first_key, last_key, key_after, key_before, set_row};
+ghost use Rattle.elem.specs.Keyed.{value_at, IsPresent, IsAbsent, HasDistinctKeys, with_value, without};
+
+use crate::links::Ends;
+use crate::row_nodes::{AllRows, Node, key_at, new_node, take_place, write_place, write_row};
+use crate::thread::{link_before, unlink};
+use elem::{Elem, NoMemory};
+use slab::Slab;
+use std::alloc::Global;
+use std::collections::HashMap;
+use std::marker::Model;
+
+/// Rows of a key and a value with distinct keys, a new key last, as `java.util`'s `LinkedHashMap`. Its calls are not
+/// counted.
+#[derive(Drop)]
+pub struct FreeLinkedMap<V: Copy> {
+    nodes: Slab<Node<V>>,
+    index: HashMap<Elem, usize>,
+    ends: Ends,
+}
+
+impl<V: Copy> Model for FreeLinkedMap<V> {
+    ghost use Rattle.std.specs.Prelude.{List};
+    ghost use Rattle.elem.specs.declared.elements.Elem.{Elem as Key};
+
+    ghost Value = { List (Key × V) };
+
+    ghost use Rattle.std.specs.HashMap.{hash_map_len};
+    ghost use Rattle.linked_base.specs.LinkedMap.{rows_now, places, IsRowsOf};
+
+    ghost view = { λ m. rows_now m.nodes m.ends m.index };
+
+    ghost invariant = { λ m. IsRowsOf m.nodes m.ends m.index (places m.nodes m.ends (hash_map_len m.index)) };
+}
+
+impl<V: Copy> FreeLinkedMap<V> {
+    /// A map with no rows.
+    pub fn new(alloc: Global) -> FreeLinkedMap<V>
+        ensures { result ≡ [] }
+    {
+        FreeLinkedMap {
+            nodes: Slab::new(alloc),
+            index: HashMap::new(alloc),
+            ends: Ends {
+                first: None,
+                last: None,
+            },
+        }
+    }
+
+    /// The number of rows.
+    pub fn len(&self) -> usize
+        ensures len { result ≡ length self.now }
+        ensures distinct { HasDistinctKeys self.now }
+    {
+        self.index.len()
+    }
+
+    /// The value of a key.
+    pub fn probe(&self, k: Elem) -> Option<V>
+        ensures { result ≡ value_at self.now k }
+    {
+        let place = *self.index.get(&k)?;
+        Some(self.nodes[place].value)
+    }
+
+    /// The key of the first row.
+    pub fn first(&self) -> Option<Elem>
+        ensures { result ≡ first_key self.now }
+    {
+        key_at(&self.nodes, self.ends.first)
+    }
+
+    /// The key of the last row.
+    pub fn last(&self) -> Option<Elem>
+        ensures { result ≡ last_key self.now }
+    {
+        key_at(&self.nodes, self.ends.last)
+    }
+
+    /// The key after `k`.
+    pub fn after(&self, k: Elem) -> Option<Elem>
+        requires { IsPresent self.now k }
+        ensures { result ≡ key_after (same k) self.now }
+    {
+        let place = self.index[&k];
+        key_at(&self.nodes, self.nodes[place].links.next)
+    }
+
+    /// The key before `k`.
+    pub fn before(&self, k: Elem) -> Option<Elem>
+        requires { IsPresent self.now k }
+        ensures { result ≡ key_before (same k) self.now }
+    {
+        let place = self.index[&k];
+        key_at(&self.nodes, self.nodes[place].links.previous)
+    }
+
+    /// Adds a row, last.
+    pub fn insert(&mut self, k: Elem, v: V) -> Result<(), NoMemory>
+        requires { IsAbsent self.old k }
+        ensures ok { OnOk result (self.new ≡ self.old ++ (k, v) ∷ []) }
+        ensures err { OnErr result (self.new ≡ self.old) }
+    {
+        if self.nodes.reserve(1).is_err() {
+            return Err(NoMemory);
+        }
+        if self.index.reserve(1).is_err() {
+            return Err(NoMemory);
+        }
+        let node = new_node(&k, v);
+        let place = self.nodes.insert_reserved(node);
+        link_before::<AllRows, Node<V>>(&mut self.nodes, &mut self.ends, place, None);
+        write_place(&mut self.index, &k, place);
+        Ok(())
+    }
+
+    /// Gives a key another value, and tells the one before. The row keeps its place.
+    pub fn replace(&mut self, k: Elem, v: V) -> V
+        requires { IsPresent self.old k }
+        ensures value { value_at self.old k ≡ Some result }
+        ensures rows { self.new ≡ with_value self.old k v }
+    {
+        let place = self.index[&k];
+        let before = self.nodes[place].value;
+        write_row(&mut self.nodes, place, &k, v);
+        before
+    }
+
+    /// Removes the row of a key, and tells its value.
+    pub fn remove(&mut self, k: Elem) -> Option<V>
+        ensures value { result ≡ value_at self.old k }
+        ensures rows { self.new ≡ without self.old k }
+    {
+        let place = take_place(&mut self.index, &k)?;
+        unlink::<AllRows, Node<V>>(&mut self.nodes, &mut self.ends, place);
+        let node = self.nodes.remove(place);
+        Some(node.value)
+    }
+
+    /// Puts the row of `new` and `v` in the place of the row of `old`.
+    pub fn rekey(&mut self, old: Elem, new: Elem, v: V) -> Result<(), NoMemory>
+        requires old { IsPresent self.old old }
+        requires new { IsAbsent self.old new ⊎ (new ≡ old) }
+        ensures ok { OnOk result (self.new ≡ set_row (same old) self.old (new, v)) }
+        ensures err { OnErr result (self.new ≡ self.old) }
+    {
+        if self.index.reserve(1).is_err() {
+            return Err(NoMemory);
+        }
+        let place = take_place(&mut self.index, &old).unwrap();
+        write_place(&mut self.index, &new, place);
+        write_row(&mut self.nodes, place, &new, v);
+        Ok(())
+    }
+
+    /// Removes every row.
+    pub fn clear(&mut self)
+        ensures { self.new ≡ [] }
+    {
+        self.nodes.clear();
+        self.index.clear();
+        self.ends = Ends {
+            first: None,
+            last: None,
+        };
+    }
+}

@@ -1,0 +1,117 @@
+ghost use Rattle.std.specs.Prelude.{◌≡◌, ◌⊎◌, ◌+◌, [], OnOk, OnErr, IfOk};
+ghost use Rattle.elem.specs.Elements.{same};
+ghost use Rattle.elem.specs.Rows.{set_row};
+ghost use Rattle.elem.specs.Keyed.{IsPresent, IsAbsent};
+
+use crate::FreeLinkedMap;
+use elem::{Elem, Keyed, NoMemory, Steps};
+use std::alloc::Global;
+use std::marker::Model;
+use std::sync::ledger::Ledger;
+
+/// Rows of a key and a value with distinct keys, a new key last, as `java.util`'s `LinkedHashMap`. Each call that takes
+/// `steps` counts one.
+#[derive(Drop)]
+pub struct LinkedMap<V: Copy> {
+    free: FreeLinkedMap<V>,
+}
+
+/// Distinct elements, a new one last, as `java.util`'s `LinkedHashSet`.
+pub type LinkedSet = LinkedMap<()>;
+
+impl<V: Copy> Model for LinkedMap<V> {
+    ghost use Rattle.std.specs.Prelude.{List};
+    ghost use Rattle.elem.specs.declared.elements.Elem.{Elem as Key};
+
+    ghost Value = { List (Key × V) };
+
+    ghost view = { λ m. m.free };
+}
+
+impl<V: Copy> LinkedMap<V> {
+    /// A map with no rows.
+    pub fn new(alloc: Global) -> Result<LinkedMap<V>, NoMemory>
+        ensures { IfOk result (λ m. m ≡ []) }
+    {
+        Ok(LinkedMap {
+            free: FreeLinkedMap::new(alloc),
+        })
+    }
+
+    /// Puts the row of `new` and `v` in the place of the row of `old`.
+    pub fn rekey<L: Ledger>(
+        &mut self,
+        old: Elem,
+        new: Elem,
+        v: V,
+        steps: &mut Steps<L>,
+    ) -> Result<(), NoMemory>
+        requires old { IsPresent self.old old }
+        requires new { IsAbsent self.old new ⊎ (new ≡ old) }
+        ensures ok { OnOk result (self.new ≡ set_row (same old) self.old (new, v)) }
+        ensures err { OnErr result (self.new ≡ self.old) }
+        ensures step { steps.new ≡ steps.old + 1 }
+    {
+        steps.tick();
+        self.free.rekey(old, new, v)
+    }
+}
+
+impl<V: Copy> Keyed<V> for LinkedMap<V> {
+    ghost use Rattle.std.specs.Prelude.{◌∷◌, ◌++◌};
+    ghost use Rattle.linked_base.specs.LastRow.{adds_last};
+
+    ghost rows = { λ m. m };
+
+    ghost inserted = { λ rows k v. rows ++ (k, v) ∷ [] };
+
+    fn len(&self) -> usize {
+        self.free.len()
+    }
+
+    fn probe<L: Ledger>(&self, k: Elem, steps: &mut Steps<L>) -> Option<V> {
+        steps.tick();
+        self.free.probe(k)
+    }
+
+    fn first<L: Ledger>(&self, steps: &mut Steps<L>) -> Option<Elem> {
+        steps.tick();
+        self.free.first()
+    }
+
+    fn last<L: Ledger>(&self, steps: &mut Steps<L>) -> Option<Elem> {
+        steps.tick();
+        self.free.last()
+    }
+
+    fn after<L: Ledger>(&self, k: Elem, steps: &mut Steps<L>) -> Option<Elem> {
+        steps.tick();
+        self.free.after(k)
+    }
+
+    fn before<L: Ledger>(&self, k: Elem, steps: &mut Steps<L>) -> Option<Elem> {
+        steps.tick();
+        self.free.before(k)
+    }
+
+    fn insert<L: Ledger>(&mut self, k: Elem, v: V, steps: &mut Steps<L>) -> Result<(), NoMemory> {
+        steps.tick();
+        self.free.insert(k, v)
+    }
+
+    fn replace<L: Ledger>(&mut self, k: Elem, v: V, steps: &mut Steps<L>) -> V {
+        steps.tick();
+        self.free.replace(k, v)
+    }
+
+    fn remove<L: Ledger>(&mut self, k: Elem, steps: &mut Steps<L>) -> Option<V> {
+        steps.tick();
+        self.free.remove(k)
+    }
+
+    fn clear(&mut self) {
+        self.free.clear();
+    }
+
+    ghost adds_row = { adds_last };
+}
