@@ -3,11 +3,11 @@ use Rattle.std.proofs.Common.{◌≡◌, ℕ, ◌+◌, ◌-◌, ◌<◌, ◌≤�
 use Rattle.std.specs.Prelude.{slice_get, Option, Some, None}
 use Rattle.std.proofs.lemmas.Option.{same_Some, slice_get-get_or, slice_get_within}
 use Rattle.std.proofs.lemmas.Bool.{cases_lt}
-use Rattle.std.proofs.lemmas.List.{get_or-append_right, get_or_append_left, append-nil}
+use Rattle.std.proofs.lemmas.List.{get_or-append_right, get_or_append_left, get_or_push, append-nil}
 use Rattle.view_steps.specs.Views.{base, over}
 use Rattle.view_steps.specs.declared.steps.Step.{Step}
-use Rattle.base_store.specs.Nodes.{IsBelow}
-use Rattle.base_store.proofs.ViewLemmas.{view_at-node}
+use Rattle.base_store.specs.Nodes.{IsBelow, view_at}
+use Rattle.base_store.proofs.ViewLemmas.{view_at-node, view_at-append}
 use Rattle.base_store.specs.Stored.{Place, Stored, IsBuilt, AllThere, place_at, no_place, view_in}
 use Rattle.base_store.specs.declared.store.Made.{Made}
 use Rattle.base_store.specs.declared.store.Made.TheVariants as made
@@ -79,3 +79,11 @@ pub step_node : (s : Stored) (n parent : ℕ) (step : Step) (node : Made) → no
 step_node s n parent step node e is below =
     let below' : IsBelow (length s.places) n (made.Over step parent) = subst (λ (m : Made). IsBelow (length s.places) n m) e below in
     (view_at-node s.nodes n (length s.places) (made.Over step parent) (is ∙ ap Some e) below', below')
+
+-- a step added to the nodes
+pub added_step : (nodes : List Made) (step : Step) (parent bases : ℕ) → parent < length nodes → view_at (nodes ++ made.Over step parent ∷ []) (length nodes) ≡ over step (view_at nodes parent)
+added_step nodes step parent bases lt =
+    let within : length nodes < length (nodes ++ made.Over step parent ∷ []) = omega (arith, length-append nodes (made.Over step parent ∷ [])) in
+    let is : slice_get (nodes ++ made.Over step parent ∷ []) (length nodes) ≡ Some (made.Over step parent) =
+    slice_get-get_or (nodes ++ made.Over step parent ∷ []) (length nodes) (made.Over step parent) within ∙ ap Some (get_or_push nodes (made.Over step parent) (made.Over step parent) (length nodes) refl) in
+    view_at-node (nodes ++ made.Over step parent ∷ []) (length nodes) bases (made.Over step parent) is lt ∙ ap (over step) (view_at-append nodes (made.Over step parent ∷ []) parent lt)

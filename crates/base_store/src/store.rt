@@ -4,7 +4,7 @@ ghost use Rattle.base_store.specs.Stored.{AllThere, IsThere, IsAway, there, away
 ghost use Rattle.base_store.specs.Unfolding.{Unfolds};
 ghost use Rattle.base_store.specs.Nodes.{IsBelow};
 ghost use Rattle.base_store.specs.declared.store.Made.TheVariants.{Over as step_node};
-ghost use Rattle.view_steps.specs.Views.{base, base_at, base_under, path, shape_at, flags_at};
+ghost use Rattle.view_steps.specs.Views.{base, over, base_at, base_under, path, shape_at, flags_at};
 
 use crate::{AnyRef, Base, BaseId, Node};
 use arrayvec::ArrayVec;
@@ -115,10 +115,17 @@ impl Store {
         requires room { length self.old.nodes < self.old.lasting + 32 }
         ensures number { result ≡ length self.old.nodes }
         ensures made { self.new ≡ with_node self.old (step_node step.now parent) }
+        ensures view { view_in self.new result ≡ over step.now (view_in self.old parent) }
     {
-        let number = self.nodes.len() + self.temporary.len();
+        let number = self.node_count();
         self.temporary.push(Made::Over(*step, parent.number()));
         AnyRef::at(number)
+    }
+
+    fn node_count(&self) -> usize
+        ensures { result ≡ length self.now.nodes }
+    {
+        self.nodes.len() + self.temporary.len()
     }
 
     /// Ends all temporary nodes.

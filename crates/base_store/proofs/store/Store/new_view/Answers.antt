@@ -1,0 +1,12 @@
+use Rattle.std.proofs.Common.{◌≡◌, ◌<◌, ◌++◌, ◌∷◌, [], length, sym, ◌∙◌, ap, append_assoc}
+use Rattle.base_store.specs.Nodes.{view_at}
+use Rattle.base_store.specs.declared.store.Made.TheVariants.{Over}
+use Rattle.base_store.proofs.NodeLemmas.{added_step}
+use Rattle.base_store.proofs.store.Store.new_view.Goals as goal
+
+pub returns-clause-view : goal.returns-clause-view
+returns-clause-view c =
+    let within = rw (← c.self.view_is) at c.requires.parent in
+    let number = c.at.ensures ∙ rw (← c.self.view_is) at c.node_count-number.ensures in
+    rw (c.push.ensures.items, c.number.ensures, number, ← append_assoc c.self.inside.nodes.items c.self.inside.temporary.items (Over c.args.step.now c.args.parent ∷ []), ← c.self.view_is)
+    (added_step _ c.args.step.now c.args.parent 0 within)
