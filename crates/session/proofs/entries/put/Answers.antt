@@ -1,0 +1,15 @@
+use Rattle.std.proofs.Common.{◌∙◌}
+use Rattle.session.proofs.WriteLemmas.{room, put_told, put_ok, put_err}
+use Rattle.session.proofs.entries.put.Goals as goal
+
+pub finish-requires-clause-change : goal.finish-requires-clause-change
+finish-requires-clause-change g c = room c.args.store.now c.args.b _ _ c.requires.there c.take_base.ensures.rest c.requires.change
+
+pub returns-clause-reply : goal.returns-clause-reply
+returns-clause-reply g c = put_told c.args.store.now c.args.b _ (c.into_map-map.ensures ∙ c.take_base.ensures.rows) _ _ c.put_entry-before.ensures.reply
+
+pub returns-clause-ok : goal.returns-clause-ok
+returns-clause-ok g c = put_ok c.args.store.now c.args.b _ (c.into_map-map.ensures ∙ c.take_base.ensures.rows) _ _ _ _ _ _ _ (record { stood = c.requires.there; took = c.take_base.ensures.rest; put = c.finish.ensures }) c.is_new.ensures c.put_entry-before.ensures.reply c.put_entry-before.ensures.rows
+
+pub returns-clause-err : goal.returns-clause-err
+returns-clause-err g c = put_err c.args.store.now c.args.b _ (c.into_map-map.ensures ∙ c.take_base.ensures.rows) _ _ c.args.k _ _ _ (record { stood = c.requires.there; took = c.take_base.ensures.rest; put = c.finish.ensures }) c.is_new.ensures c.put_entry-before.ensures.err

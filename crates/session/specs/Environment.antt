@@ -1,0 +1,26 @@
+-- The bases and names of a session, seen as the state of the plain machine.
+use Rattle.std.specs.Prelude.{◌≡◌, ℕ, ◌<◌, List, [], ◌∷◌, length, map}
+use Rattle.base_store.specs.Nodes.{view_at}
+use Rattle.base_store.specs.Stored.{Stored, world_of, AllThere}
+use Rattle.base_store.specs.declared.store.Made.{Made}
+use Rattle.session.specs.State.{State}
+use Rattle.view_steps.specs.Views.{View}
+
+-- the names with the views of their nodes
+abbrev pub named : List Made → List (List ℕ × ℕ) → List (List ℕ × View)
+named nodes names = map (λ (e : List ℕ × ℕ). (e.0, view_at nodes e.1)) names
+
+-- a store's bases beside names
+abbrev pub seen_as : Stored → List (List ℕ × View) → State
+seen_as store names = record { bases = world_of store.places; names = names }
+
+-- each name stands for a node among so many
+abbrev pub NamesWithin : ℕ → List (List ℕ × ℕ) → Type 0
+NamesWithin n [] = Unit {0}
+NamesWithin n (e ∷ names) = (e.1 < n) × NamesWithin n names
+
+-- between lines every base stands at its place, no node is temporary, and each name has a node
+pub record IsSettled (store : Stored) (names : List (List ℕ × ℕ)) : Type 0 where
+  pub all_there : AllThere store.places
+  pub still : length store.nodes ≡ store.lasting
+  pub named_within : NamesWithin store.lasting names

@@ -1,0 +1,13 @@
+pub mod Lines
+pub mod Arguments
+pub mod Seen
+pub mod Typing
+pub mod Replying
+pub mod State
+pub mod Calls
+pub mod Machine
+pub mod Environment
+pub mod Executing
+pub mod Following
+pub mod Entries
+pub mod Printing

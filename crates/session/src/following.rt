@@ -1,0 +1,48 @@
+//! Following the words of an expression, step by step.
+ghost use Rattle.std.specs.Prelude.{◌≡◌, ◌<◌, length, IsSome};
+ghost use Rattle.base_store.specs.Stored.{world_of, view_in, without_temporary};
+ghost use Rattle.view_steps.specs.Views.{shape_at};
+ghost use Rattle.session.specs.Typing.{typed_words};
+ghost use Rattle.session.specs.Following.{target, Reached};
+
+use crate::lines::Part;
+use crate::typing::{Typed, type_word};
+use base_store::{AnyRef, Store};
+use view_steps::{Call, Refusal};
+
+/// The longest path of steps.
+const MOST_STEPS: usize = 32;
+
+/// What an expression ends in: a view, or a call on one.
+#[derive(Clone, Copy, Debug)]
+pub enum End {
+    View(AnyRef),
+    Call(AnyRef, Call),
+}
+
+/// Follows words that each have a meaning in their place. The views on the way are temporary nodes.
+pub fn follow(store: &mut Store, head: AnyRef, parts: &[Part]) -> Result<End, Refusal>
+    requires head { head < length store.old.nodes }
+    requires still { length store.old.nodes ≡ store.old.lasting }
+    requires typed { IsSome (typed_words (shape_at (world_of store.old.places) (view_in store.old head)) parts.now) }
+    ensures places { store.new.places ≡ store.old.places }
+    ensures front { without_temporary store.new ≡ without_temporary store.old }
+    ensures reached { Reached store.new result (target (world_of store.old.places) (view_in store.old head) parts.now) }
+{
+    let mut node = head;
+    let mut rest = parts;
+    while let [part, more @ ..] = rest {
+        match type_word(more.is_empty(), store.shape(node), part) {
+            Some(Typed::Step(step)) => {
+                if store.path(node) >= MOST_STEPS {
+                    return Err(Refusal::Limit);
+                }
+                node = store.new_view(node, &step);
+                rest = more;
+            }
+            Some(Typed::Call(call)) => return Ok(End::Call(node, call)),
+            None => return Err(Refusal::Limit),
+        }
+    }
+    Ok(End::View(node))
+}

@@ -1,0 +1,10 @@
+//! A session: names, and the lines that are executed over them.
+#![tactic(auto)]
+
+mod entries;
+mod faults;
+mod following;
+mod lines;
+mod printing;
+mod replies;
+mod typing;
