@@ -35,14 +35,6 @@ value_shown-entries (row ∷ rows) k = by (same k row.0) (value_shown-entries ro
     by true rest = refl
     by false rest = rest
 
-pub is_shown-keys : (rows : List (Elem × Elem)) (x : Elem) → is_shown (keys rows) (One x) ≡ is_some (value_at rows x)
-is_shown-keys [] x = refl
-is_shown-keys (row ∷ rows) x = by (same x row.0) (is_shown-keys rows x)
-  where
-    by : (b : Bool) → is_shown (keys rows) (One x) ≡ is_some (value_at rows x) → (b || is_shown (keys rows) (One x)) ≡ is_some (cond b (Some row.1) (value_at rows x))
-    by true rest = refl
-    by false rest = rest
-
 -- ---- a put
 
 without-none : (n : ℕ) (rows : List Item) → without_rows [] n rows ≡ rows

@@ -6,3 +6,4 @@ pub mod FollowLemmas
 pub mod PrintLemmas
 pub mod ViewLemmas
 pub mod WriteLemmas
+pub mod CallLemmas

@@ -1,9 +1,11 @@
 -- What the views of maps show: a base its entries, and any steps over it its keys.
 use Rattle.std.proofs.Common.{◌≡◌, ℕ, ◌+◌, Bool, true, false, List, [], ◌∷◌, length, map, Option, None, Some, cond, ◌⊎◌, inl, inr, refl, sym, ◌∙◌, ap, subst}
-use Rattle.std.specs.Prelude.{filter, find, ◌&&◌}
+use Rattle.std.specs.Prelude.{filter, find, ◌&&◌, ◌||◌}
+use Rattle.std.specs.Option.{is_some, option_map}
 use Rattle.std.proofs.lemmas.List.{length-map}
 use Rattle.elem.specs.declared.elements.Elem.{Elem}
 use Rattle.elem.specs.Elements.{same}
+use Rattle.elem.specs.Keyed.{value_at}
 use Rattle.base_store.specs.Bases.{entries, entry_of}
 use Rattle.view_steps.specs.declared.items.Item.{Item}
 use Rattle.view_steps.specs.declared.items.Item.TheVariants.{One, Entry}
@@ -11,17 +13,19 @@ use Rattle.view_steps.specs.declared.kinds.Kind.{Kind}
 use Rattle.view_steps.specs.declared.kinds.Kind.TheVariants.{LinkedHashMap}
 use Rattle.view_steps.specs.declared.shapes.Shape.{Shape}
 use Rattle.view_steps.specs.declared.shapes.Shape.TheVariants as shape
+use Rattle.view_steps.specs.declared.steps.Needs.TheVariants.{Add}
 use Rattle.view_steps.specs.declared.steps.Step.TheVariants.{Plain}
 use Rattle.view_steps.specs.declared.steps.PlainStep.TheVariants.{KeySet}
 use Rattle.view_steps.specs.Calls.{is_set, is_map}
-use Rattle.view_steps.specs.Items.{same_item}
+use Rattle.view_steps.specs.Items.{key_of, value_of, same_item}
 use Rattle.view_steps.specs.Kinds.{shape_of_kind}
-use Rattle.view_steps.specs.Steps.{apply, item_of}
-use Rattle.view_steps.specs.Views.{Base, World, View, base, over, Candidate, of_rows, changed, with_item, candidates, shown, item_in, is_seen, base_at, base_under, shape_after, shape_at}
-use Rattle.session.specs.Calls.{has_key, rows_or_none, removal}
+use Rattle.view_steps.specs.Steps.{apply, item_of, lacks}
+use Rattle.view_steps.specs.Views.{Base, World, View, base, over, Candidate, of_rows, changed, with_item, candidates, shown, item_in, is_seen, base_at, base_under, shape_after, shape_at, flags_at}
+use Rattle.session.specs.Calls.{has_key, value_shown, is_shown, rows_or_none, removal}
 use Rattle.session.specs.Printing.{keys, items_of}
+use Rattle.session.proofs.EntryLemmas.{value_shown-entries}
 
-abbrev rows_under : World → View → List Item
+abbrev pub rows_under : World → View → List Item
 rows_under world view = (base_at world (base_under view)).rows
 
 abbrev with_keys : List Candidate → List Candidate
@@ -58,57 +62,79 @@ map_candidates world view h = elim (by_shape world view) [ inl p ↦ p.1 | inr p
 pub set_candidates : (world : World) (view : View) → is_set (shape_at world view) ≡ true → candidates world view ≡ with_keys (of_rows 0 (rows_under world view))
 set_candidates world view h = elim (by_shape world view) [ inl p ↦ absurd (not_both (shape_at world view) p.0 h) | inr p ↦ p.1 ]
 
-shown_rows : (n : ℕ) (rows : List (Elem × Elem)) → map item_in (filter is_seen (of_rows n (entries rows))) ≡ entries rows
+shown_rows : (n : ℕ) (items : List Item) → map item_in (filter is_seen (of_rows n items)) ≡ items
 shown_rows n [] = refl
-shown_rows n (row ∷ rows) = ap (λ (is : List Item). Entry row.0 row.1 ∷ is) (shown_rows (n + 1) rows)
+shown_rows n (item ∷ items) = ap (λ (is : List Item). item ∷ is) (shown_rows (n + 1) items)
 
-shown_keys : (n : ℕ) (rows : List (Elem × Elem)) → map item_in (filter is_seen (with_keys (of_rows n (entries rows)))) ≡ keys rows
+shown_keys : (n : ℕ) (items : List Item) → map item_in (filter is_seen (with_keys (of_rows n items))) ≡ map (item_of (Plain KeySet)) items
 shown_keys n [] = refl
-shown_keys n (row ∷ rows) = ap (λ (is : List Item). One row.0 ∷ is) (shown_keys (n + 1) rows)
+shown_keys n (item ∷ items) = ap (λ (is : List Item). item_of (Plain KeySet) item ∷ is) (shown_keys (n + 1) items)
 
-pub map_shown : (world : World) (view : View) (rows : List (Elem × Elem)) → is_map (shape_at world view) ≡ true → entries rows ≡ rows_under world view → shown world view ≡ entries rows
-map_shown world view rows h is = ap (λ cs. map item_in (filter is_seen cs)) (map_candidates world view h ∙ ap (of_rows 0) (sym is)) ∙ shown_rows 0 rows
+pub map_shown : (world : World) (view : View) → is_map (shape_at world view) ≡ true → shown world view ≡ rows_under world view
+map_shown world view h = ap (λ cs. map item_in (filter is_seen cs)) (map_candidates world view h) ∙ shown_rows 0 (rows_under world view)
 
-pub set_shown : (world : World) (view : View) (rows : List (Elem × Elem)) → is_set (shape_at world view) ≡ true → entries rows ≡ rows_under world view → shown world view ≡ keys rows
-set_shown world view rows h is = ap (λ cs. map item_in (filter is_seen cs)) (set_candidates world view h ∙ ap (λ rs. with_keys (of_rows 0 rs)) (sym is)) ∙ shown_keys 0 rows
+set_shown : (world : World) (view : View) → is_set (shape_at world view) ≡ true → shown world view ≡ map (item_of (Plain KeySet)) (rows_under world view)
+set_shown world view h = ap (λ cs. map item_in (filter is_seen cs)) (set_candidates world view h) ∙ shown_keys 0 (rows_under world view)
+
+keys_mapped : (rows : List (Elem × Elem)) → map (item_of (Plain KeySet)) (entries rows) ≡ keys rows
+keys_mapped [] = refl
+keys_mapped (row ∷ rows) = ap (λ (is : List Item). One row.0 ∷ is) (keys_mapped rows)
 
 -- what is shown, by the shape
 pub shown_by_shape : (world : World) (view : View) (rows : List (Elem × Elem)) → entries rows ≡ rows_under world view → shown world view ≡ items_of (shape_at world view) rows
 shown_by_shape world view rows is = elim (by_shape world view) [
-  | inl p ↦ map_shown world view rows p.0 is ∙ sym (of_map (shape_at world view) p.0)
-  | inr p ↦ set_shown world view rows p.0 is ∙ sym (of_set (shape_at world view) p.0)
-]
+    inl p ↦ map_shown world view p.0 ∙ sym is ∙ sym (of_map (shape_at world view) p.0)
+  | inr p ↦ set_shown world view p.0 ∙ ap (map (item_of (Plain KeySet))) (sym is) ∙ keys_mapped rows ∙ sym (of_set (shape_at world view) p.0) ]
   where
     of_map : (of : Shape) → is_map of ≡ true → items_of of rows ≡ entries rows
     of_map (shape.Set sorted) h = cc
     of_map (shape.Map sorted) h = refl
-
     of_set : (of : Shape) → is_set of ≡ true → items_of of rows ≡ keys rows
     of_set (shape.Set sorted) h = refl
     of_set (shape.Map sorted) h = cc
 
 pub shown_count : (world : World) (view : View) (rows : List (Elem × Elem)) → entries rows ≡ rows_under world view → length (shown world view) ≡ length rows
-shown_count world view rows is = ap length (shown_by_shape world view rows is) ∙ count (shape_at world view)
+shown_count world view rows is = ap (λ (items : List Item). length items) (shown_by_shape world view rows is) ∙ count (shape_at world view)
   where
     count : (of : Shape) → length (items_of of rows) ≡ length rows
     count (shape.Set sorted) = length-map rows (λ (row : Elem × Elem). One row.0)
     count (shape.Map sorted) = length-map rows entry_of
 
--- the rows that go where a key goes from a set are those that go where it goes from its map
-removed_key : (n : ℕ) (rows : List (Elem × Elem)) (x : Elem) → rows_or_none (find (λ (c : Candidate). c.seen && same_item (One x) c.item) (with_keys (of_rows n (entries rows)))) ≡ rows_or_none (find (λ (c : Candidate). c.seen && has_key x c.item) (of_rows n (entries rows)))
-removed_key n [] x = refl
-removed_key n (row ∷ rows) x = by (same x row.0) (removed_key (n + 1) rows x)
+-- a linked map's value is the one in the rows of its base
+pub value_under : (world : World) (view : View) (rows : List (Elem × Elem)) (k : Elem) → entries rows ≡ rows_under world view → value_at rows k ≡ value_shown (rows_under world view) k
+value_under world view rows k is = sym (value_shown-entries rows k) ∙ ap (λ (items : List Item). value_shown items k) is
+
+-- a key is shown where a row has it
+pub key_shown : (world : World) (view : View) (x : Elem) → is_set (shape_at world view) ≡ true → is_shown (shown world view) (One x) ≡ is_some (value_shown (rows_under world view) x)
+key_shown world view x h = ap (λ (items : List Item). is_shown items (One x)) (set_shown world view h) ∙ by_rows (rows_under world view)
   where
-    by : (b : Bool) → rows_or_none (find (λ (c : Candidate). c.seen && same_item (One x) c.item) (with_keys (of_rows (n + 1) (entries rows)))) ≡ rows_or_none (find (λ (c : Candidate). c.seen && has_key x c.item) (of_rows (n + 1) (entries rows)))
-        → rows_or_none (cond b (Some (record { rows = n ∷ []; item = One row.0; seen = true })) (find (λ (c : Candidate). c.seen && same_item (One x) c.item) (with_keys (of_rows (n + 1) (entries rows)))))
-        ≡ rows_or_none (cond b (Some (record { rows = n ∷ []; item = Entry row.0 row.1; seen = true })) (find (λ (c : Candidate). c.seen && has_key x c.item) (of_rows (n + 1) (entries rows))))
+    by_rows : (items : List Item) → is_shown (map (item_of (Plain KeySet)) items) (One x) ≡ is_some (value_shown items x)
+    by_rows [] = refl
+    by_rows (item ∷ items) = by (same x (key_of item)) (by_rows items)
+      where
+        by : (b : Bool) → is_shown (map (item_of (Plain KeySet)) items) (One x) ≡ is_some (value_shown items x)
+          → (b || is_shown (map (item_of (Plain KeySet)) items) (One x)) ≡ is_some (option_map value_of (cond b (Some item) (find (has_key x) items)))
+        by true rest = refl
+        by false rest = rest
+
+-- the rows that go where a key goes from a set are those that go where it goes from its map
+removed_key : (n : ℕ) (items : List Item) (x : Elem) → rows_or_none (find (λ (c : Candidate). c.seen && same_item (One x) c.item) (with_keys (of_rows n items))) ≡ rows_or_none (find (λ (c : Candidate). c.seen && has_key x c.item) (of_rows n items))
+removed_key n [] x = refl
+removed_key n (item ∷ items) x = by (same x (key_of item)) (removed_key (n + 1) items x)
+  where
+    by : (b : Bool) → rows_or_none (find (λ (c : Candidate). c.seen && same_item (One x) c.item) (with_keys (of_rows (n + 1) items))) ≡ rows_or_none (find (λ (c : Candidate). c.seen && has_key x c.item) (of_rows (n + 1) items))
+      → rows_or_none (cond b (Some (record { rows = n ∷ []; item = One (key_of item); seen = true })) (find (λ (c : Candidate). c.seen && same_item (One x) c.item) (with_keys (of_rows (n + 1) items))))
+        ≡ rows_or_none (cond b (Some (record { rows = n ∷ []; item = item; seen = true })) (find (λ (c : Candidate). c.seen && has_key x c.item) (of_rows (n + 1) items)))
     by true rest = refl
     by false rest = rest
 
-pub set_removal : (world : World) (view : View) (rows : List (Elem × Elem)) (x : Elem) → is_set (shape_at world view) ≡ true → entries rows ≡ rows_under world view → removal (same_item (One x)) (candidates world view) ≡ removal (has_key x) (of_rows 0 (rows_under world view))
-set_removal world view rows x h is =
-    ap (removal (same_item (One x))) (set_candidates world view h ∙ ap (λ rs. with_keys (of_rows 0 rs)) (sym is))
-    ∙ ap (λ gone. record { gone = gone; added = [] }) (removed_key 0 rows x) ∙ ap (λ rs. removal (has_key x) (of_rows 0 rs)) is
+pub set_removal : (world : World) (view : View) (x : Elem) → is_set (shape_at world view) ≡ true → removal (same_item (One x)) (candidates world view) ≡ removal (has_key x) (of_rows 0 (rows_under world view))
+set_removal world view x h = ap (removal (same_item (One x))) (set_candidates world view h) ∙ ap (λ gone. record { gone = gone; added = [] }) (removed_key 0 (rows_under world view) x)
 
 pub map_removal : (world : World) (view : View) (k : Elem) → is_map (shape_at world view) ≡ true → removal (has_key k) (candidates world view) ≡ removal (has_key k) (of_rows 0 (rows_under world view))
 map_removal world view k h = ap (removal (has_key k)) (map_candidates world view h)
+
+-- no set of keys grows
+pub set_lacks_add : (world : World) (view : View) → is_set (shape_at world view) ≡ true → lacks (flags_at world view) Add ≡ true
+set_lacks_add world (base b) h = absurd (not_both (shape_at world (base b)) (is_map-kind (base_at world b).kind) h)
+set_lacks_add world (over (Plain KeySet) view) h = refl

@@ -52,12 +52,16 @@ abbrev pub after_edit : State → View → Option Edit → State
 after_edit state view None = state
 after_edit state view (Some edit) = written_to state view edit
 
--- a call on a view: a missing flag refuses it, else it replies by what is shown and changes the base
+-- a call that is not refused replies by what is shown and changes the base
+abbrev pub carried_out : State → View → Call → Outcome
+carried_out state view call = record { reply = Some (reply_of call (shown state.bases view)); after = after_edit state view (edit_of call (candidates state.bases view)) }
+
+-- a call on a view, refused where it asks for what the view does not allow
 abbrev pub called : State → View → Call → Outcome
 called state view call =
     if not (fits (shape_at state.bases view) call) then says state (codes "?call")
     else if lacks (flags_at state.bases view) (needs_of call) then refused state UnsupportedOperation
-    else record { reply = Some (reply_of call (shown state.bases view)); after = after_edit state view (edit_of call (candidates state.bases view)) }
+    else carried_out state view call
 
 abbrev pub ended : State → View → Ending → Outcome
 ended state view shows = says state (view_text (shape_at state.bases view) (shown state.bases view))
