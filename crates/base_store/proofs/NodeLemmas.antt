@@ -80,10 +80,16 @@ step_node s n parent step node e is below =
     let below' : IsBelow (length s.places) n (made.Over step parent) = subst (λ (m : Made). IsBelow (length s.places) n m) e below in
     (view_at-node s.nodes n (length s.places) (made.Over step parent) (is ∙ ap Some e) below', below')
 
--- a step added to the nodes
+-- the node that was added last
+added_node : (nodes : List Made) (node : Made) → slice_get (nodes ++ node ∷ []) (length nodes) ≡ Some node
+added_node nodes node =
+    let within : length nodes < length (nodes ++ node ∷ []) = omega (arith, length-append nodes (node ∷ [])) in
+    slice_get-get_or (nodes ++ node ∷ []) (length nodes) node within ∙ ap Some (get_or_push nodes node node (length nodes) refl)
+
+-- a base, and a step, added to the nodes
+pub added_base : (nodes : List Made) (b : ℕ) → view_at (nodes ++ made.Base b ∷ []) (length nodes) ≡ base b
+added_base nodes b = view_at-node (nodes ++ made.Base b ∷ []) (length nodes) (b + 1) (made.Base b) (added_node nodes (made.Base b)) (omega arith)
+
 pub added_step : (nodes : List Made) (step : Step) (parent bases : ℕ) → parent < length nodes → view_at (nodes ++ made.Over step parent ∷ []) (length nodes) ≡ over step (view_at nodes parent)
 added_step nodes step parent bases lt =
-    let within : length nodes < length (nodes ++ made.Over step parent ∷ []) = omega (arith, length-append nodes (made.Over step parent ∷ [])) in
-    let is : slice_get (nodes ++ made.Over step parent ∷ []) (length nodes) ≡ Some (made.Over step parent) =
-    slice_get-get_or (nodes ++ made.Over step parent ∷ []) (length nodes) (made.Over step parent) within ∙ ap Some (get_or_push nodes (made.Over step parent) (made.Over step parent) (length nodes) refl) in
-    view_at-node (nodes ++ made.Over step parent ∷ []) (length nodes) bases (made.Over step parent) is lt ∙ ap (over step) (view_at-append nodes (made.Over step parent ∷ []) parent lt)
+    view_at-node (nodes ++ made.Over step parent ∷ []) (length nodes) bases (made.Over step parent) (added_node nodes (made.Over step parent)) lt ∙ ap (over step) (view_at-append nodes (made.Over step parent ∷ []) parent lt)

@@ -52,7 +52,7 @@ edit_calm it edit n le = by _
 
 -- ---- outcomes
 
-does_said : (r : Result (Unit {0}) ExecFault) (t u : Option (List ℕ)) (before now after : State) (text : List ℕ) → r ≢ Err NoMemory → now ≡ after → Wrote r t u (text ++ 10 ∷ []) → Does r before now (record { reply = Some text; after = after }) t u
+pub does_said : (r : Result (Unit {0}) ExecFault) (t u : Option (List ℕ)) (before now after : State) (text : List ℕ) → r ≢ Err NoMemory → now ≡ after → Wrote r t u (text ++ 10 ∷ []) → Does r before now (record { reply = Some text; after = after }) t u
 does_said (Ok x) t u before now after text memory e w = (e, w)
 does_said (Err WriteFault) t u before now after text memory e w = w
 does_said (Err NoMemory) t u before now after text memory e w = absurd (memory refl)
@@ -74,7 +74,7 @@ module _ {r : Result (Unit {0}) ExecFault} {t u : Option (List ℕ)} {f g : ℕ}
 
   -- a reply and a write to the base under a view
   pub came_written : (s now : Stored) (view : View) (edit : Edit) (outcome : State → Outcome) (text : List ℕ) → AllThere s.places → now ≡ with_place s (base_under view) (there (edited (base_at (world_of s.places) (base_under view)) edit))
-    → ((state : State) → state.bases ≡ world_of s.places → (let o : Outcome = record { reply = Some text; after = written_to state view edit } in o) ≡ outcome state) → Said r t u f g (text ++ 10 ∷ []) → Came r s now outcome t u f g
+      → ((state : State) → state.bases ≡ world_of s.places → (let o : Outcome = record { reply = Some text; after = written_to state view edit } in o) ≡ outcome state) → Said r t u f g (text ++ 10 ∷ []) → Came r s now outcome t u f g
   came_written s now view edit outcome text all wrote is said = record {
     nodes = ap (λ (x : Stored). x.nodes) wrote;
     lasting = ap (λ (x : Stored). x.lasting) wrote;
@@ -99,7 +99,7 @@ module _ {r : Result (Unit {0}) ExecFault} {t u : Option (List ℕ)} {f g : ℕ}
       after : (names : List (List ℕ × View)) → seen_as now names ≡ written_to (seen_as s names) view edit
       after names = ap (λ (w : World). let x : State = record { bases = w; names = names } in x) worlds
 
-stays : (t : Option (List ℕ)) → Stays t t
+pub stays : (t : Option (List ℕ)) → Stays t t
 stays None = tt
 stays (Some told) = refl
 
@@ -140,7 +140,7 @@ module _ (s : Stored) (view : View) where
       where
         is : (state : State) → state.bases ≡ w → says state (reply_of it (shown w view)) ≡ carried_out state view it
         is state e = ap (λ (x : World). says state (reply_of it (shown x view))) (sym e)
-          ∙ ap (λ (o : Option Edit). let outcome : Outcome = record { reply = Some (reply_of it (shown state.bases view)); after = after_edit state view o } in outcome) (sym (reads state.bases))
+            ∙ ap (λ (o : Option Edit). let outcome : Outcome = record { reply = Some (reply_of it (shown state.bases view)); after = after_edit state view o } in outcome) (sym (reads state.bases))
 
     -- a call that writes
     pub came_wrote : (now : Stored) (it : Call) (b : ℕ) (edit : Edit) (text : List ℕ) → AllThere s.places → b ≡ base_under view → now ≡ with_place s b (there (edited (base_at w b) edit)) → edit_of it (candidates w view) ≡ Some edit
@@ -150,8 +150,8 @@ module _ (s : Stored) (view : View) where
       where
         is : (state : State) → state.bases ≡ w → (let o : Outcome = record { reply = Some text; after = written_to state view edit } in o) ≡ carried_out state view it
         is state e = sym (ap (λ (x : World). let o : Outcome = record { reply = Some (reply_of it (shown x view)); after = after_edit state view (edit_of it (candidates x view)) } in o) e
-          ∙ ap (λ (text' : List ℕ). let o : Outcome = record { reply = Some text'; after = after_edit state view (edit_of it (candidates w view)) } in o) tells
-          ∙ ap (λ (o' : Option Edit). let o : Outcome = record { reply = Some text; after = after_edit state view o' } in o) edits)
+            ∙ ap (λ (text' : List ℕ). let o : Outcome = record { reply = Some text'; after = after_edit state view (edit_of it (candidates w view)) } in o) tells
+            ∙ ap (λ (o' : Option Edit). let o : Outcome = record { reply = Some text; after = after_edit state view o' } in o) edits)
 
     -- a call of which something is known
     pub came_of : (now : Stored) (it other : Call) → it ≡ other → Came r s now (λ state. carried_out state view it) t u f g → Came r s now (λ state. carried_out state view other) t u f g
@@ -169,15 +169,15 @@ module _ (s : Stored) (view : View) where
       where
         is : (state : State) → state.bases ≡ w → says state (codes "?call") ≡ called state view it
         is state e = sym (ap (λ (b : Bool). cond (not b) (says state (codes "?call")) (if lacks (flags_at state.bases view) (needs_of it) then refused state UnsupportedOperation else carried_out state view it))
-          (ap (λ (x : World). fits (shape_at x view) it) e ∙ unfit))
+            (ap (λ (x : World). fits (shape_at x view) it) e ∙ unfit))
 
     pub came_lacking : (it : Call) → AllThere s.places → fits (shape_at w view) it ≡ true → lacks (flags_at w view) (needs_of it) ≡ true → Said r t u f g (codes "UnsupportedOperationException" ++ 10 ∷ []) → Came r s s (λ state. called state view it) t u f g
     came_lacking it all fit lacking said = came_said s (λ state. called state view it) (codes "UnsupportedOperationException") all is said
       where
         is : (state : State) → state.bases ≡ w → says state (codes "UnsupportedOperationException") ≡ called state view it
         is state e = sym (ap (λ (b : Bool). cond (not b) (says state (codes "?call")) (if lacks (flags_at state.bases view) (needs_of it) then refused state UnsupportedOperation else carried_out state view it))
-          (ap (λ (x : World). fits (shape_at x view) it) e ∙ fit)
-          ∙ ap (λ (b : Bool). cond b (refused state UnsupportedOperation) (carried_out state view it)) (ap (λ (x : World). lacks (flags_at x view) (needs_of it)) e ∙ lacking))
+            (ap (λ (x : World). fits (shape_at x view) it) e ∙ fit)
+            ∙ ap (λ (b : Bool). cond b (refused state UnsupportedOperation) (carried_out state view it)) (ap (λ (x : World). lacks (flags_at x view) (needs_of it)) e ∙ lacking))
 
     pub came_allowed : (now : Stored) (it : Call) → fits (shape_at w view) it ≡ true → lacks (flags_at w view) (needs_of it) ≡ false → Came r s now (λ state. carried_out state view it) t u f g → Came r s now (λ state. called state view it) t u f g
     came_allowed now it fit allowed h = record {
@@ -189,5 +189,5 @@ module _ (s : Stored) (view : View) where
       where
         is : (state : State) → state.bases ≡ w → called state view it ≡ carried_out state view it
         is state e = ap (λ (b : Bool). cond (not b) (says state (codes "?call")) (if lacks (flags_at state.bases view) (needs_of it) then refused state UnsupportedOperation else carried_out state view it))
-          (ap (λ (x : World). fits (shape_at x view) it) e ∙ fit)
-          ∙ ap (λ (b : Bool). cond b (refused state UnsupportedOperation) (carried_out state view it)) (ap (λ (x : World). lacks (flags_at x view) (needs_of it)) e ∙ allowed)
+            (ap (λ (x : World). fits (shape_at x view) it) e ∙ fit)
+            ∙ ap (λ (b : Bool). cond b (refused state UnsupportedOperation) (carried_out state view it)) (ap (λ (x : World). lacks (flags_at x view) (needs_of it)) e ∙ allowed)

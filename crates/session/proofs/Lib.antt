@@ -7,3 +7,6 @@ pub mod PrintLemmas
 pub mod ViewLemmas
 pub mod WriteLemmas
 pub mod CallLemmas
+pub mod EvalLemmas
+pub mod NameLemmas
+pub mod SessionLemmas

@@ -83,12 +83,14 @@ keys_mapped (row ∷ rows) = ap (λ (is : List Item). One row.0 ∷ is) (keys_ma
 -- what is shown, by the shape
 pub shown_by_shape : (world : World) (view : View) (rows : List (Elem × Elem)) → entries rows ≡ rows_under world view → shown world view ≡ items_of (shape_at world view) rows
 shown_by_shape world view rows is = elim (by_shape world view) [
-    inl p ↦ map_shown world view p.0 ∙ sym is ∙ sym (of_map (shape_at world view) p.0)
-  | inr p ↦ set_shown world view p.0 ∙ ap (map (item_of (Plain KeySet))) (sym is) ∙ keys_mapped rows ∙ sym (of_set (shape_at world view) p.0) ]
+  | inl p ↦ map_shown world view p.0 ∙ sym is ∙ sym (of_map (shape_at world view) p.0)
+  | inr p ↦ set_shown world view p.0 ∙ ap (map (item_of (Plain KeySet))) (sym is) ∙ keys_mapped rows ∙ sym (of_set (shape_at world view) p.0)
+]
   where
     of_map : (of : Shape) → is_map of ≡ true → items_of of rows ≡ entries rows
     of_map (shape.Set sorted) h = cc
     of_map (shape.Map sorted) h = refl
+
     of_set : (of : Shape) → is_set of ≡ true → items_of of rows ≡ keys rows
     of_set (shape.Set sorted) h = refl
     of_set (shape.Map sorted) h = cc
@@ -113,7 +115,7 @@ key_shown world view x h = ap (λ (items : List Item). is_shown items (One x)) (
     by_rows (item ∷ items) = by (same x (key_of item)) (by_rows items)
       where
         by : (b : Bool) → is_shown (map (item_of (Plain KeySet)) items) (One x) ≡ is_some (value_shown items x)
-          → (b || is_shown (map (item_of (Plain KeySet)) items) (One x)) ≡ is_some (option_map value_of (cond b (Some item) (find (has_key x) items)))
+            → (b || is_shown (map (item_of (Plain KeySet)) items) (One x)) ≡ is_some (option_map value_of (cond b (Some item) (find (has_key x) items)))
         by true rest = refl
         by false rest = rest
 
@@ -123,7 +125,7 @@ removed_key n [] x = refl
 removed_key n (item ∷ items) x = by (same x (key_of item)) (removed_key (n + 1) items x)
   where
     by : (b : Bool) → rows_or_none (find (λ (c : Candidate). c.seen && same_item (One x) c.item) (with_keys (of_rows (n + 1) items))) ≡ rows_or_none (find (λ (c : Candidate). c.seen && has_key x c.item) (of_rows (n + 1) items))
-      → rows_or_none (cond b (Some (record { rows = n ∷ []; item = One (key_of item); seen = true })) (find (λ (c : Candidate). c.seen && same_item (One x) c.item) (with_keys (of_rows (n + 1) items))))
+        → rows_or_none (cond b (Some (record { rows = n ∷ []; item = One (key_of item); seen = true })) (find (λ (c : Candidate). c.seen && same_item (One x) c.item) (with_keys (of_rows (n + 1) items))))
         ≡ rows_or_none (cond b (Some (record { rows = n ∷ []; item = item; seen = true })) (find (λ (c : Candidate). c.seen && has_key x c.item) (of_rows (n + 1) items)))
     by true rest = refl
     by false rest = rest

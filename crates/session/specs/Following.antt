@@ -1,5 +1,5 @@
 -- Where the words of an expression lead.
-use Rattle.std.specs.Prelude.{◌≡◌, ℕ, ◌+◌, ◌<◌, ◌≤◌, List, length, Option, Some, Result, Ok, Err}
+use Rattle.std.specs.Prelude.{◌≡◌, ◌≢◌, ℕ, ◌+◌, ◌<◌, ◌≤◌, List, length, Option, Some, Result, Ok, Err}
 use Rattle.base_store.specs.Stored.{Stored, world_of, view_in, without_temporary}
 use Rattle.session.specs.Machine.{reach}
 use Rattle.session.specs.Typing.{Ending, shows, calls, typed_words}
@@ -7,18 +7,24 @@ use Rattle.session.specs.declared.following.End.{End}
 use Rattle.session.specs.declared.following.End.TheVariants as end
 use Rattle.session.specs.declared.lines.Part.{Part}
 use Rattle.view_steps.specs.declared.refusals.Refusal.{Refusal}
-use Rattle.view_steps.specs.declared.refusals.Refusal.TheVariants.{Limit}
+use Rattle.view_steps.specs.declared.refusals.Refusal.TheVariants.{NoMemory}
 use Rattle.view_steps.specs.Views.{World, View, shape_at, path}
 
 -- what the words lead to, from a view
 abbrev pub target : World → View → List Part → Option (Result (View × Ending) Refusal)
 target world view parts = reach world view (typed_words (shape_at world view) parts)
 
--- the node at which the words end is that of their view
-abbrev pub Reached : Stored → Result End Refusal → Option (Result (View × Ending) Refusal) → Type 0
-Reached store (Ok (end.View n)) wanted = (n < length store.nodes) × (wanted ≡ Some (Ok (view_in store n, shows)))
-Reached store (Ok (end.Call n call)) wanted = (n < length store.nodes) × (wanted ≡ Some (Ok (view_in store n, calls call)))
-Reached store (Err refusal) wanted = (refusal ≡ Limit) × (wanted ≡ Some (Err refusal))
+-- an end is at a node of the store; a refusal is not want of memory, which no word tells
+abbrev pub IsEnd : Stored → Result End Refusal → Type 0
+IsEnd store (Ok (end.View n)) = n < length store.nodes
+IsEnd store (Ok (end.Call n call)) = n < length store.nodes
+IsEnd store (Err refusal) = refusal ≢ NoMemory
+
+-- an end with the view of its node
+abbrev pub end_in : Stored → Result End Refusal → Result (View × Ending) Refusal
+end_in store (Ok (end.View n)) = Ok (view_in store n, shows)
+end_in store (Ok (end.Call n call)) = Ok (view_in store n, calls call)
+end_in store (Err refusal) = Err refusal
 
 -- The words so far led from one node to another: what is left leads where all of them lead.
 pub record Followed (before now : Stored) (head node : ℕ) (parts rest : List Part) : Type 0 where

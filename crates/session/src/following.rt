@@ -1,9 +1,9 @@
 //! Following the words of an expression, step by step.
-ghost use Rattle.std.specs.Prelude.{◌≡◌, ◌<◌, length, IsSome};
+ghost use Rattle.std.specs.Prelude.{◌≡◌, ◌<◌, length, IsSome, Some};
 ghost use Rattle.base_store.specs.Stored.{world_of, view_in, without_temporary};
 ghost use Rattle.view_steps.specs.Views.{shape_at};
 ghost use Rattle.session.specs.Typing.{typed_words};
-ghost use Rattle.session.specs.Following.{target, Reached};
+ghost use Rattle.session.specs.Following.{IsEnd, end_in, target};
 
 use crate::lines::Part;
 use crate::typing::{Typed, type_word};
@@ -27,7 +27,8 @@ pub fn follow(store: &mut Store, head: AnyRef, parts: &[Part]) -> Result<End, Re
     requires typed { IsSome (typed_words (shape_at (world_of store.old.places) (view_in store.old head)) parts.now) }
     ensures places { store.new.places ≡ store.old.places }
     ensures front { without_temporary store.new ≡ without_temporary store.old }
-    ensures reached { Reached store.new result (target (world_of store.old.places) (view_in store.old head) parts.now) }
+    ensures end { IsEnd store.new result }
+    ensures led { target (world_of store.old.places) (view_in store.old head) parts.now ≡ Some (end_in store.new result) }
 {
     let mut node = head;
     let mut rest = parts;

@@ -3,9 +3,15 @@
 
 mod calling;
 mod entries;
+mod environment;
+mod evaluating;
 mod faults;
 mod following;
 mod lines;
 mod printing;
 mod replies;
+mod session;
 mod typing;
+
+pub use faults::ExecFault;
+pub use session::Session;

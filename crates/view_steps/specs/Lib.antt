@@ -5,5 +5,6 @@ pub mod Steps
 pub mod Refusals
 pub mod Calls
 pub mod Words
+pub mod ViewCode
 pub mod Views
 pub mod Texts

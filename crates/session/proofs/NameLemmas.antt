@@ -1,0 +1,146 @@
+-- The names of an environment: what a look-up finds, and what a new base and its name leave.
+use Rattle.std.proofs.Common.{◌≡◌, ◌≢◌, ℕ, ◌+◌, ◌<◌, ◌≤◌, Bool, true, false, List, [], ◌∷◌, ◌++◌, length, map, take, Option, None, Some, Result, Ok, Err, OnOk, cond, nat_eq, refl, sym, ◌∙◌, ap, subst, arith, length-append}
+use Rattle.std.specs.Prelude.{codes}
+use Rattle.std.specs.Cmp.Lexicographic.{pointwise}
+use Rattle.std.specs.Map.{lookup}
+use Rattle.std.specs.Option.{option_map, IsSome}
+use Rattle.std.specs.Result.{is_err, IsOk}
+use Rattle.std.proofs.lemmas.List.{length-map, map-append}
+use Rattle.indexmap.specs.IndexMap.{insert_entry}
+use Rattle.view_steps.specs.declared.kinds.Kind.{Kind}
+use Rattle.view_steps.specs.Views.{World, View, base, empty_base, base_at}
+use Rattle.base_store.specs.declared.store.Made.{Made}
+use Rattle.base_store.specs.declared.store.Made.TheVariants as made
+use Rattle.base_store.specs.Nodes.{view_at}
+use Rattle.base_store.specs.Stored.{Stored, Place, AllThere, world_of, base_in, there, with_base, view_in}
+use Rattle.base_store.proofs.NodeLemmas.{added_base}
+use Rattle.base_store.proofs.ViewLemmas.{view_at-append}
+use Rattle.session.specs.declared.faults.ExecFault.{ExecFault}
+use Rattle.session.specs.declared.faults.ExecFault.TheVariants.{WriteFault, NoMemory}
+use Rattle.session.specs.Environment.{named, seen_as, NamesWithin, IsSettled}
+use Rattle.session.specs.Executing.{Does, Executed}
+use Rattle.session.specs.Machine.{Outcome, says}
+use Rattle.session.specs.Replying.{Said}
+use Rattle.session.specs.State.{State, bound, ChangesUpTo, view_named}
+use Rattle.session.proofs.CallLemmas.{calm_on, does_said}
+use Rattle.session.proofs.EvalLemmas.{take_whole}
+
+abbrev pub same_text : List ℕ → List ℕ → Bool
+same_text = pointwise nat_eq
+
+-- ---- a look-up
+
+pub named_view : (nodes : List Made) (names : List (List ℕ × ℕ)) (name : List ℕ) → view_named (named nodes names) name ≡ option_map (view_at nodes) (lookup (same_text name) names)
+named_view nodes [] name = refl
+named_view nodes (e ∷ names) name = by (same_text name e.0) (named_view nodes names name)
+  where
+    by : (b : Bool) → view_named (named nodes names) name ≡ option_map (view_at nodes) (lookup (same_text name) names)
+        → cond b (Some (view_at nodes e.1)) (view_named (named nodes names) name) ≡ option_map (view_at nodes) (cond b (Some e.1) (lookup (same_text name) names))
+    by true rest = refl
+    by false rest = rest
+
+pub found_within : (k : ℕ) (names : List (List ℕ × ℕ)) (name : List ℕ) (n : ℕ) → NamesWithin k names → lookup (same_text name) names ≡ Some n → n < k
+found_within k [] name n h e = cc
+found_within k (x ∷ names) name n h e = by (same_text name x.0) e (found_within k names name n h.1)
+  where
+    by : (b : Bool) → cond b (Some x.1) (lookup (same_text name) names) ≡ Some n → (lookup (same_text name) names ≡ Some n → n < k) → n < k
+    by true f rest = let here : x.1 ≡ n = cc in subst (λ m. m < k) here h.0
+    by false f rest = rest f
+
+-- ---- a new name
+
+bound_named : (nodes : List Made) (names : List (List ℕ × ℕ)) (name : List ℕ) (n : ℕ) → named nodes (insert_entry same_text names name n) ≡ bound (named nodes names) name (view_at nodes n)
+bound_named nodes [] name n = refl
+bound_named nodes (e ∷ names) name n = by (same_text name e.0) (bound_named nodes names name n)
+  where
+    by : (b : Bool) → named nodes (insert_entry same_text names name n) ≡ bound (named nodes names) name (view_at nodes n)
+        → named nodes (cond b ((e.0, n) ∷ names) (e ∷ insert_entry same_text names name n)) ≡ cond b ((e.0, view_at nodes n) ∷ named nodes names) ((e.0, view_at nodes e.1) ∷ bound (named nodes names) name (view_at nodes n))
+    by true rest = refl
+    by false rest = ap (λ (ns : List (List ℕ × View)). (e.0, view_at nodes e.1) ∷ ns) rest
+
+-- the views of names are those that they had where only nodes were added
+named_more : (nodes more : List Made) (names : List (List ℕ × ℕ)) → NamesWithin (length nodes) names → named (nodes ++ more) names ≡ named nodes names
+named_more nodes more [] h = refl
+named_more nodes more (e ∷ names) h = λ i. (e.0, view_at-append nodes more e.1 h.0 i) ∷ named_more nodes more names h.1 i
+
+within_more : (names : List (List ℕ × ℕ)) (name : List ℕ) (node n m : ℕ) → NamesWithin n names → n ≤ m → node < m → NamesWithin m (insert_entry same_text names name node)
+within_more [] name node n m h le lt = (lt, tt)
+within_more (e ∷ names) name node n m h le lt = by (same_text name e.0) (within_more names name node n m h.1 le lt)
+  where
+    first : e.1 < m
+    first = let old : e.1 < n = h.0 in omega (arith, old, le)
+
+    wider : (fs : List (List ℕ × ℕ)) → NamesWithin n fs → NamesWithin m fs
+    wider [] k = tt
+    wider (f ∷ fs) k = let old : f.1 < n = k.0 in (omega (arith, old, le), wider fs k.1)
+
+    by : (b : Bool) → NamesWithin m (insert_entry same_text names name node) → NamesWithin m (cond b ((e.0, node) ∷ names) (e ∷ insert_entry same_text names name node))
+    by true rest = (lt, wider names h.1)
+    by false rest = (first, rest)
+
+pub ok_part : {T E P : Type 0} (r : Result T E) → is_err r ≡ false → OnOk r P → P
+ok_part (Ok x) e h = h
+ok_part (Err x) e h = cc
+
+pub ok_at : {T E P : Type 0} (r : Result T E) → IsOk r → OnOk r P → P
+ok_at (Ok x) e h = h
+ok_at (Err x) e h = cc
+
+-- a base was made and named
+pub record Added (s now : Stored) (names names' : List (List ℕ × ℕ)) (name : List ℕ) (kind : Kind) : Type 0 where
+  pub settled : IsSettled s names
+  pub grown : now ≡ with_base s kind
+  pub all_there : AllThere now.places
+  pub entered : names' ≡ insert_entry same_text names name s.lasting
+
+module _ (s now : Stored) (names names' : List (List ℕ × ℕ)) (name : List ℕ) (kind : Kind) (h : Added s now names names' name kind) where
+  nodes_now : now.nodes ≡ s.nodes ++ made.Base (length s.places) ∷ []
+  nodes_now = ap (λ (x : Stored). x.nodes) h.grown ∙ ap (λ (ns : List Made). ns ++ made.Base (length s.places) ∷ []) (ap (λ (n : ℕ). take n s.nodes) (sym h.settled.still) ∙ take_whole s.nodes)
+
+  lasting_now : now.lasting ≡ s.lasting + 1
+  lasting_now = ap (λ (x : Stored). x.lasting) h.grown
+
+  pub settled_more : IsSettled now names'
+  settled_more = record {
+    all_there = h.all_there;
+    still = ap (λ (ns : List Made). length ns) nodes_now ∙ length-append s.nodes (made.Base (length s.places) ∷ []) ∙ ap (λ (n : ℕ). n + 1) h.settled.still ∙ sym lasting_now;
+    named_within = subst (λ (ns : List (List ℕ × ℕ)). NamesWithin now.lasting ns) (sym h.entered) (within_more names name s.lasting s.lasting now.lasting h.settled.named_within (omega (arith, lasting_now)) (omega (arith, lasting_now)));
+  }
+
+  worlds : world_of now.places ≡ world_of s.places ++ empty_base kind ∷ []
+  worlds = ap (λ (x : Stored). world_of x.places) h.grown ∙ map-append base_in s.places (there (empty_base kind) ∷ [])
+
+  names_now : named now.nodes names' ≡ bound (named s.nodes names) name (base (length (world_of s.places)))
+  names_now =
+      ap (λ (ns : List (List ℕ × ℕ)). named now.nodes ns) h.entered ∙ bound_named now.nodes names name s.lasting
+      ∙ ap (λ (ns : List Made). bound (named ns names) name (view_at ns s.lasting)) nodes_now
+      ∙ ap (λ (known : List (List ℕ × View)). bound known name (view_at (s.nodes ++ made.Base (length s.places) ∷ []) s.lasting)) (named_more s.nodes (made.Base (length s.places) ∷ []) names (subst (λ (n : ℕ). NamesWithin n names) (sym h.settled.still) h.settled.named_within))
+      ∙ ap (λ (n : ℕ). bound (named s.nodes names) name (view_at (s.nodes ++ made.Base (length s.places) ∷ []) n)) (sym h.settled.still)
+      ∙ ap (λ (v : View). bound (named s.nodes names) name v) (added_base s.nodes (length s.places))
+      ∙ ap (λ (n : ℕ). bound (named s.nodes names) name (base n)) (sym (length-map s.places base_in))
+
+  -- the outcome of a line that makes a base
+  abbrev pub state_before : State
+  state_before = seen_as s (named s.nodes names)
+
+  abbrev pub state_after : State
+  state_after = record { bases = world_of s.places ++ empty_base kind ∷ []; names = bound (named s.nodes names) name (base (length (world_of s.places))) }
+
+  now_is : seen_as now (named now.nodes names') ≡ state_after
+  now_is = ap (λ (w : World). let x : State = record { bases = w; names = named now.nodes names' } in x) worlds ∙ ap (λ (ns : List (List ℕ × View)). let x : State = record { bases = world_of s.places ++ empty_base kind ∷ []; names = ns } in x) names_now
+
+  calm_more : (n : ℕ) (world : World) → ChangesUpTo n world → ChangesUpTo (n + 1) (world ++ empty_base kind ∷ [])
+  calm_more n [] c = (omega arith, tt)
+  calm_more n (it ∷ world) c = let first : it.change ≤ n = c.0 in (omega (arith, first), calm_more n world c.1)
+
+  pub executed_new : (r : Result (Unit {0}) ExecFault) (t u : Option (List ℕ)) (f g : ℕ) → Said r t u f g (codes "ok" ++ 10 ∷ []) → Executed r state_before (seen_as now (named now.nodes names')) (record { reply = Some (codes "ok"); after = state_after }) t u f g
+  executed_new r t u f g said = record {
+    does = does_said r t u state_before (seen_as now (named now.nodes names')) state_after (codes "ok") said.memory now_is said.wrote;
+    changes = λ n c. subst (λ (w : World). ChangesUpTo (n + 1) w) (sym worlds) (calm_more n (world_of s.places) c);
+    later = said.later;
+    cause = said.cause;
+  }
+
+-- a reply that changes nothing
+pub executed_said : (r : Result (Unit {0}) ExecFault) (state : State) (t u : Option (List ℕ)) (f g : ℕ) (text : List ℕ) → Said r t u f g (text ++ 10 ∷ []) → Executed r state state (says state text) t u f g
+executed_said r state t u f g text said = record { does = does_said r t u state state state text said.memory refl said.wrote; changes = λ n c. calm_on n state.bases c; later = said.later; cause = said.cause }

@@ -1,0 +1,97 @@
+//! A session: the lines that are executed, one after another.
+ghost use Rattle.std.specs.Prelude.{◌≡◌, ℕ, ◌+◌, ◌^◌, ◌≤◌, Err, OnOk};
+ghost use Rattle.elem.specs.Outside.{Rose};
+ghost use Rattle.session.specs.Executing.{Executed};
+ghost use Rattle.session.specs.Machine.{step, written};
+ghost use Rattle.session.specs.Replying.{Wrote};
+ghost use Rattle.session.specs.State.{ChangesUpTo, empty};
+
+use crate::environment::Environment;
+use crate::faults::ExecFault;
+use crate::lines::{Line, Part, read_line};
+use crate::replies::{Reply, say};
+use arrayvec::ArrayVec;
+use elem::{Sink, Steps};
+use std::alloc::Global;
+use std::marker::Model;
+use std::sync::ledger::Ledger;
+
+/// Collections by their names, and the lines that make, show and change them.
+///
+/// A session keeps two buffers for the line at hand, its words and its reply, so that a line takes no memory but for what
+/// it adds to a collection.
+#[derive(Drop)]
+pub struct Session {
+    environment: Environment,
+    parts: ArrayVec<Part, 512>,
+    reply: Reply,
+}
+
+impl Model for Session {
+    ghost use Rattle.session.specs.State.{State};
+    ghost use Rattle.std.specs.Coded.{codes};
+    ghost use Rattle.view_steps.specs.ViewCode.{view_code};
+
+    ghost Value = { State };
+
+    ghost coded = { Prim.hlevel (codes, view_code) };
+
+    ghost view = { λ session. session.environment };
+}
+
+impl Session {
+    /// A session in which nothing is there. It takes no memory.
+    pub fn empty(alloc: Global) -> Session
+        ensures { result ≡ empty }
+    {
+        Session {
+            environment: Environment::empty(alloc),
+            parts: ArrayVec::new(),
+            reply: Reply::new(),
+        }
+    }
+
+    /// Executes a line, given without its newline: writes its reply and a newline, or nothing where there is no reply.
+    ///
+    /// # Errors
+    ///
+    /// `WriteFault` where the sink failed: a front of the reply may have gone there, and the line was executed or not.
+    /// `NoMemory` where memory ran out: nothing was written and nothing has changed.
+    pub fn exec<S: Sink, L: Ledger>(
+        &mut self,
+        line: &[u8],
+        out: &mut S,
+        steps: &mut Steps<L>,
+    ) -> Result<(), ExecFault>
+        requires { ChangesUpTo (2 ^ 62) self.old.bases }
+        ensures ok { OnOk result (self.new ≡ (step self.old line.now).after) }
+        ensures reply { Wrote result (S.taken out.old) (S.taken out.new) (written (step self.old line.now).reply) }
+        ensures unchanged { result ≡ Err ExecFault.NoMemory → self.new ≡ self.old }
+        ensures changes { (n : ℕ) → ChangesUpTo n self.old.bases → ChangesUpTo (n + 1) self.new.bases }
+        ensures later { S.faults out.old ≤ S.faults out.new }
+        ensures cause { result ≡ Err ExecFault.WriteFault → Rose (S.faults out.old) (S.faults out.new) }
+    {
+        self.execute(line, out, steps)
+    }
+
+    fn execute<S: Sink, L: Ledger>(
+        &mut self,
+        line: &[u8],
+        out: &mut S,
+        steps: &mut Steps<L>,
+    ) -> Result<(), ExecFault>
+        requires { ChangesUpTo (2 ^ 62) self.old.bases }
+        ensures { Executed result self.old self.new (step self.old line.now) (S.taken out.old) (S.taken out.new) (S.faults out.old) (S.faults out.new) }
+    {
+        match read_line(line, &mut self.parts) {
+            Line::Blank => Ok(()),
+            Line::Long => say(&mut self.reply, out, b"?long"),
+            Line::Syntax => say(&mut self.reply, out, b"?syntax"),
+            Line::New(name, kind) => self.environment.make(name, kind, &mut self.reply, out),
+            Line::Eval(name) => {
+                self.environment
+                    .eval(name, self.parts.as_slice(), &mut self.reply, out, steps)
+            }
+        }
+    }
+}
