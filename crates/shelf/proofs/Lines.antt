@@ -1,0 +1,86 @@
+-- The replies to a script, as its bytes come one by one.
+use Rattle.std.proofs.Common.{◌≡◌, ℕ, ◌+◌, ◌<◌, ◌≤◌, ◌==◌, Bool, true, false, List, [], ◌∷◌, ◌++◌, length, take, cond, min, nat_lt, refl, sym, ◌∙◌, ap, subst, arith, append_assoc, length-append, inl, inr, ◌⊎◌}
+use Rattle.std.specs.List.{onto_first}
+use Rattle.std.proofs.lemmas.List.{append-nil, take_all, take-append-le, length-take}
+use Rattle.std.proofs.lemmas.Bool.Decides.{nat_tests, leb_tells}
+use borrow.Author.Tests.{lt-ltb}
+use Rattle.session.specs.State.{State, empty}
+use Rattle.session.specs.Machine.{step, step_of}
+use Rattle.session.specs.Lines.{Tree, read, long, form_of, trimmed}
+use Rattle.session.specs.Machine.{written}
+use Rattle.shelf.specs.Transcript.{lines_of, replies, transcript}
+use Rattle.shelf.specs.Feed.{kept, last_reply, replies_on}
+
+-- no newline
+abbrev pub IsOneLine : List ℕ → Type 0
+IsOneLine [] = Unit {0}
+IsOneLine (b ∷ bs) = (b == 10 ≡ false) × IsOneLine bs
+
+one_more : (line : List ℕ) (b : ℕ) → IsOneLine line → b == 10 ≡ false → IsOneLine (line ++ b ∷ [])
+one_more [] b h e = (e, tt)
+one_more (c ∷ line) b h e = (h.0, one_more line b h.1 e)
+
+read_long : (line : List ℕ) → 1024 < length line → read line ≡ long
+unfolding read
+read_long line h = ap (λ (b : Bool). cond b long (form_of (trimmed line))) (lt-ltb 1024 (length line) h)
+
+-- a line is kept whole, or its front is already too long
+kept_cases : (line : List ℕ) → (kept line ≡ line) ⊎ ((length (kept line) ≡ 1025) × (1025 ≤ length line))
+kept_cases line = elim (leb_tells (length line) 1025) as (λ _. (kept line ≡ line) ⊎ ((length (kept line) ≡ 1025) × (1025 ≤ length line))) [
+  | inl p ↦ inl (take_all 1025 line p.1)
+  | inr q ↦ let above : 1025 < length line = q.1 in let cut : length (kept line) ≡ min 1025 (length line) = length-take 1025 line in inr (omega arith, omega arith)
+]
+
+-- what is cut off a line doesn't change how it reads
+pub read_kept : (line : List ℕ) → read (kept line) ≡ read line
+read_kept line = elim (kept_cases line) as (λ _. read (kept line) ≡ read line) [
+  | inl same ↦ ap read same
+  | inr q ↦ let now : length (kept line) ≡ 1025 = q.0 in let before : 1025 ≤ length line = q.1 in
+      read_long (kept line) (omega arith) ∙ sym (read_long line (omega arith))
+]
+
+pub kept_push : (line : List ℕ) (c : ℕ) → kept (kept line ++ c ∷ []) ≡ kept (line ++ c ∷ [])
+kept_push line c = elim (kept_cases line) as (λ _. kept (kept line ++ c ∷ []) ≡ kept (line ++ c ∷ [])) [
+  | inl same ↦ ap (λ l. kept (l ++ c ∷ [])) same
+  | inr q ↦ let now : length (kept line) ≡ 1025 = q.0 in let before : 1025 ≤ length line = q.1 in
+      take-append-le 1025 (kept line) (c ∷ []) (omega arith) ∙ take_all 1025 (kept line) (omega arith) ∙ sym (take-append-le 1025 line (c ∷ []) before)
+]
+
+lines_at : (line more : List ℕ) → IsOneLine line → lines_of (line ++ 10 ∷ more) ≡ line ∷ lines_of more
+lines_at [] more h = refl
+lines_at (b ∷ bs) more h =
+    ap (λ (t : Bool). cond t ([] ∷ lines_of (bs ++ 10 ∷ more)) (onto_first b (lines_of (bs ++ 10 ∷ more)))) h.0 ∙ ap (onto_first b) (lines_at bs more h.1)
+
+last_line : (b : ℕ) (bs : List ℕ) → IsOneLine (b ∷ bs) → lines_of (b ∷ bs) ≡ (b ∷ bs) ∷ []
+last_line b [] h = ap (λ (t : Bool). cond t ([] ∷ []) ((b ∷ []) ∷ [])) h.0
+last_line b (c ∷ cs) h =
+    ap (λ (t : Bool). cond t ([] ∷ lines_of (c ∷ cs)) (onto_first b (lines_of (c ∷ cs)))) h.0 ∙ ap (onto_first b) (last_line c cs h.1)
+
+reply_kept : (state : State) (line : List ℕ) → written (step state (kept line)).reply ≡ written (step state line).reply
+reply_kept state line = ap (λ l. written (step_of state l).reply) (read_kept line)
+
+at_end : (state : State) (line : List ℕ) → IsOneLine line → replies state (lines_of line) ≡ replies_on state (kept line) []
+unfolding replies replies_on
+at_end state [] h = refl
+at_end state (b ∷ bs) h = ap (replies state) (last_line b bs h) ∙ append-nil _ ∙ sym (reply_kept state (b ∷ bs))
+
+pub on_from : (state : State) (line bs : List ℕ) → IsOneLine line → replies state (lines_of (line ++ bs)) ≡ replies_on state (kept line) bs
+unfolding replies replies_on
+on_from state line [] h = ap (λ l. replies state (lines_of l)) (append-nil line) ∙ at_end state line h
+on_from state line (c ∷ cs) h = by (c == 10) refl (on_from (step state line).after [] cs tt) (λ e. on_from state (line ++ c ∷ []) cs (one_more line c h e))
+  where
+    newline : c ≡ 10 → replies (step state line).after (lines_of cs) ≡ replies_on (step state line).after [] cs → replies state (lines_of (line ++ c ∷ cs)) ≡ replies_on state (kept line) (c ∷ cs)
+    newline e rest = subst (λ (d : ℕ). replies state (lines_of (line ++ d ∷ cs)) ≡ replies_on state (kept line) (d ∷ cs)) (sym e)
+        (ap (replies state) (lines_at line cs h) ∙ ap (λ ys. written (step state line).reply ++ ys) rest
+        ∙ sym (ap (λ l. written (step_of state l).reply ++ replies_on (step_of state l).after [] cs) (read_kept line)))
+
+    by : (t : Bool) → c == 10 ≡ t → replies (step state line).after (lines_of cs) ≡ replies_on (step state line).after [] cs →
+        (c == 10 ≡ false → replies state (lines_of ((line ++ c ∷ []) ++ cs)) ≡ replies_on state (kept (line ++ c ∷ [])) cs) →
+        replies state (lines_of (line ++ c ∷ cs)) ≡ replies_on state (kept line) (c ∷ cs)
+    by true e rest more = newline (grind (arith, nat_tests)) rest
+    by false e rest more =
+        sym (ap (λ l. replies state (lines_of l)) (append_assoc line (c ∷ []) cs)) ∙ more e ∙ ap (λ l. replies_on state l cs) (sym (kept_push line c))
+        ∙ sym (ap (λ (t : Bool). cond t (written (step state (kept line)).reply ++ replies_on (step state (kept line)).after [] cs) (replies_on state (kept (kept line ++ c ∷ [])) cs)) e)
+
+pub transcript_is : (bytes : List ℕ) → transcript bytes ≡ replies_on empty [] bytes
+transcript_is bytes = on_from empty [] bytes tt

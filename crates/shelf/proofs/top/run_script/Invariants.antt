@@ -1,0 +1,18 @@
+use Rattle.std.proofs.Common.{◌≡◌, ℕ, ◌+◌, ◌-◌, ◌^◌, ◌≤◌, List, length, Some}
+use Rattle.session.specs.State.{ChangesUpTo}
+use Rattle.shelf.specs.Feed.{Coming}
+use Rattle.shelf.proofs.top.run_script.Given as goal
+
+-- so many bytes were taken and fed, and no count has fallen
+abbrev pub invariant-loop-count : goal.invariant-loop-count
+invariant-loop-count g l = record {
+  within : l.taken ≤ 2 ^ 40;
+  changes : ChangesUpTo l.taken l.session.bases;
+  reads : g.I.Inputs.read_faults l.fn.inputs ≤ g.I.Inputs.read_faults l.inputs;
+  writes : g.S.Sink.faults l.fn.sink ≤ g.S.Sink.faults l.sink;
+  coming : (bytes : List ℕ) → g.I.Inputs.left l.fn.inputs ≡ Some bytes →
+      Coming bytes (g.I.Inputs.left l.inputs) l.taken l.session l.line (g.S.Sink.taken l.fn.sink) (g.S.Sink.taken l.sink);
+}
+
+abbrev pub decreases-loop-count : goal.decreases-loop-count
+decreases-loop-count g l = 2 ^ 40 + 1 - l.taken

@@ -1,0 +1,36 @@
+-- What a run of a script leaves.
+use Rattle.std.specs.Prelude.{◌≡◌, ℕ, ◌+◌, ◌-◌, ◌^◌, ◌<◌, ◌≤◌, ◌↔◌, List, [], ◌∷◌, ◌++◌, length, Option, None, Some, codes}
+use Rattle.elem.specs.Outside.{Takes, TakesFront, Rose}
+use Rattle.shelf.specs.Transcript.{transcript}
+use Rattle.std.specs.Prelude.{Result, Ok, Err}
+use Rattle.session.specs.declared.faults.ExecFault.{ExecFault}
+use Rattle.session.specs.declared.faults.ExecFault.TheVariants as faults
+use Rattle.shelf.specs.declared.status.Status.{Status}
+use Rattle.shelf.specs.declared.status.Status.TheVariants.{Done, Usage, ReadFault, WriteFault, NoMemory, TooLong}
+
+-- the greatest number of bytes of a script
+abbrev pub most_bytes : ℕ
+most_bytes = 2 ^ 40
+
+-- the words of this command
+abbrev pub IsRun : List (List ℕ) → Type 0
+IsRun words = words ≡ codes "run" ∷ []
+
+-- A script of these bytes was run: `came` was taken of it, and `left` was not.
+pub record Ran (bytes came left : List ℕ) (old new : Option (List ℕ)) (status : Status) : Type 0 where
+  pub parts : bytes ≡ came ++ left
+  -- the sink took the whole transcript of a script that was read to its end
+  pub done : status ≡ Done → (left ≡ []) × Takes old new (transcript bytes)
+  -- and else a front of the transcript of what was taken
+  pub front : TakesFront old new (transcript came)
+  pub too_long : (status ≡ TooLong) ↔ (most_bytes < length came)
+
+-- the status of a fault in the execution of a line
+abbrev pub fault_status : ExecFault → Status
+fault_status faults.WriteFault = WriteFault
+fault_status faults.NoMemory = NoMemory
+
+-- the status of a run that ended so
+abbrev pub status_of : Result (Unit {0}) Status → Status
+status_of (Ok x) = Done
+status_of (Err status) = status

@@ -1,0 +1,4 @@
+pub mod Feed
+pub mod Headline
+pub mod Transcript
+pub mod WordsView

@@ -1,0 +1,19 @@
+-- What a script writes.
+use Rattle.std.specs.Prelude.{ℕ, ◌==◌, List, [], ◌∷◌, ◌++◌, if◌then◌else◌}
+use Rattle.std.specs.List.{onto_first}
+use Rattle.session.specs.State.{State, empty}
+use Rattle.session.specs.Machine.{step, written}
+
+-- The lines are the pieces between newlines, and a last piece that is not empty.
+abbrev pub lines_of : List ℕ → List (List ℕ)
+lines_of [] = []
+lines_of (b ∷ bs) = if b == 10 then [] ∷ lines_of bs else onto_first b (lines_of bs)
+
+-- the replies to the lines, from a state on
+unfoldable pub replies : State → List (List ℕ) → List ℕ
+replies state [] = []
+replies state (line ∷ lines) = written (step state line).reply ++ replies (step state line).after lines
+
+-- the replies to a script
+abbrev pub transcript : List ℕ → List ℕ
+transcript bytes = replies empty (lines_of bytes)

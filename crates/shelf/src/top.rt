@@ -1,0 +1,103 @@
+//! The top call.
+ghost use Rattle.std.specs.Prelude.{◌≡◌, ◌≢◌, ℕ, ◌+◌, ◌-◌, ◌^◌, ◌<◌, ◌≤◌, ◌↔◌, List, [], ◌∷◌, length, Option, None, Some, Ok, Err};
+ghost use Rattle.elem.specs.Outside.{Rose, Stays};
+ghost use Rattle.session.specs.State.{empty};
+ghost use Rattle.shelf.specs.Headline.{IsRun, Ran, status_of};
+
+use crate::feeding::{feed, finish};
+use crate::line_buffer::LineBuffer;
+use crate::{Status, Words};
+use elem::{Failed, Inputs, Sink, Steps};
+use session::{ExecFault, Session};
+use std::alloc::Global;
+use std::sync::ledger::Ledger;
+
+/// The greatest number of bytes of a script.
+const MOST_BYTES: u64 = 1 << 40;
+
+/// The greatest number of bytes that are read at once.
+const PIECE: usize = 4096;
+
+impl From<ExecFault> for Status {
+    ghost use Rattle.std.specs.Prelude.{◌≡◌};
+    ghost use Rattle.shelf.specs.Headline.{fault_status};
+
+    ghost from_gives = { λ fault status. status ≡ fault_status fault };
+
+    fn from(fault: ExecFault) -> Status {
+        match fault {
+            ExecFault::WriteFault => Status::WriteFault,
+            ExecFault::NoMemory => Status::NoMemory,
+        }
+    }
+}
+
+/// Executes the command that the words give.
+pub fn run<I: Inputs, S: Sink, L: Ledger>(
+    alloc: Global,
+    words: &Words,
+    inputs: &mut I,
+    sink: &mut S,
+    steps: &mut Steps<L>,
+) -> Status
+    ensures usage { (result ≡ Status.Usage) ↔ (IsRun words.now → ⊥) }
+    ensures usage_writes_nothing { result ≡ Status.Usage → Stays (S.taken sink.old) (S.taken sink.new) }
+    ensures ran { (bytes : List ℕ) → IsRun words.now → I.standard_bytes inputs.old ≡ Some bytes →
+        (came left : List ℕ) × (I.left inputs.new ≡ Some left) × Ran bytes came left (S.taken sink.old) (S.taken sink.new) result }
+    ensures read_fault { result ≡ Status.ReadFault → Rose (I.read_faults inputs.old) (I.read_faults inputs.new) }
+    ensures write_fault { result ≡ Status.WriteFault → Rose (S.faults sink.old) (S.faults sink.new) }
+{
+    if !words.is_run() {
+        return Status::Usage;
+    }
+    inputs.standard();
+    let mut session = Session::empty(alloc);
+    match run_script(&mut session, inputs, sink, steps) {
+        Ok(()) => Status::Done,
+        Err(status) => status,
+    }
+}
+
+/// Executes the script that the inputs have left.
+fn run_script<I: Inputs, S: Sink, L: Ledger>(
+    session: &mut Session,
+    inputs: &mut I,
+    sink: &mut S,
+    steps: &mut Steps<L>,
+) -> Result<(), Status>
+    requires { session.old ≡ empty }
+    ensures ran { (bytes : List ℕ) → I.left inputs.old ≡ Some bytes →
+        (came left : List ℕ) × (I.left inputs.new ≡ Some left) × Ran bytes came left (S.taken sink.old) (S.taken sink.new) (status_of result) }
+    ensures usage { result ≢ Err Status.Usage }
+    ensures read_fault { result ≡ Err Status.ReadFault → Rose (I.read_faults inputs.old) (I.read_faults inputs.new) }
+    ensures write_fault { result ≡ Err Status.WriteFault → Rose (S.faults sink.old) (S.faults sink.new) }
+{
+    let mut line = LineBuffer::new();
+    let mut room = [0u8; PIECE];
+    let mut taken = 0u64;
+    loop {
+        let most = piece_size(taken);
+        let Ok(count) = inputs.read(&mut room[..most]) else {
+            return Err(Status::ReadFault);
+        };
+        if count == 0 {
+            return Ok(finish(session, &line, sink, steps)?);
+        }
+        taken += count as u64;
+        if taken > MOST_BYTES {
+            return Err(Status::TooLong);
+        }
+        feed(session, &mut line, &room[..count], sink, steps)?;
+    }
+}
+
+/// How many bytes to ask for after so many: no more than the script may have, and one, to see whether another comes.
+fn piece_size(taken: u64) -> usize
+    requires { taken ≤ 2 ^ 40 }
+    ensures some { 0 < result }
+    ensures fits { result ≤ 4096 }
+    ensures within { taken < 2 ^ 40 → taken + result ≤ 2 ^ 40 }
+{
+    let left = MOST_BYTES - taken;
+    left.clamp(1, PIECE as u64) as usize
+}
