@@ -21,7 +21,7 @@ mod words;
 pub use counting::Steps;
 pub use cuts::{Cut, lies_between, same_cut};
 pub use elements::{Elem, natural_order, same};
-pub use memory::{MemInputs, MemSink};
+pub use memory::{MemInputs, MemSink, path_of};
 pub use orders::{ByLength, Compare, Natural, Reverse};
 pub use outside::{Failed, Inputs, NoMemory, Sink};
 pub use rows::Keyed;

@@ -202,7 +202,7 @@ fn rest_of<'a>(standard: &'a [u8], files: &'a [MemFile], source: Source, at: usi
 }
 
 /// A path, kept in itself.
-fn path_of(path: &[u8]) -> ArrayVec<u8, 255>
+pub fn path_of(path: &[u8]) -> ArrayVec<u8, 255>
     requires { length path.now ≤ 255 }
     ensures { result.items ≡ path.now }
 {
