@@ -1,0 +1,10 @@
+pub mod UnitLaws
+pub mod Spacing
+pub mod Lookups
+pub mod EditLemmas
+pub mod Members
+pub mod Changes
+pub mod EndLemmas
+pub mod RowsLemmas
+pub mod ReadLemmas
+pub mod CallLaws
