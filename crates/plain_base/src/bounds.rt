@@ -1,0 +1,66 @@
+//! The ends of the part of a tree between two bounds.
+ghost use Rattle.std.specs.Prelude.{◌≡◌};
+ghost use Rattle.std.specs.Bound.{IsForward};
+ghost use Rattle.std.specs.BTreeMap.Range.{IsLeBy, IsLtBy, entries_between};
+ghost use Rattle.elem.specs.Rows.{first_key, last_key};
+ghost use Rattle.plain_base.specs.Ordered.{order_of};
+ghost use Rattle.plain_base.specs.Sorted.{IsInOrder, lower_bound, upper_bound};
+
+use crate::ranked::Ranked;
+use elem::{Compare, Cut, Elem};
+use std::collections::BTreeMap;
+use std::ops::Bound;
+
+/// Where the keys above a cut begin.
+pub(crate) fn lower_bound<C: Compare>(cut: &Cut) -> Bound<Ranked<C>>
+    ensures { result ≡ lower_bound cut.now }
+{
+    match cut {
+        Cut::Below(k) => Bound::Included(Ranked::new(*k)),
+        Cut::Above(k) => Bound::Excluded(Ranked::new(*k)),
+        _ => Bound::Unbounded,
+    }
+}
+
+/// Where the keys below a cut end.
+pub(crate) fn upper_bound<C: Compare>(cut: &Cut) -> Bound<Ranked<C>>
+    ensures { result ≡ upper_bound cut.now }
+{
+    match cut {
+        Cut::Below(k) => Bound::Excluded(Ranked::new(*k)),
+        Cut::Above(k) => Bound::Included(Ranked::new(*k)),
+        _ => Bound::Unbounded,
+    }
+}
+
+/// The first key between two bounds.
+pub(crate) fn first_between<V: Copy, C: Compare>(
+    rows: &BTreeMap<Ranked<C>, V>,
+    from: Bound<Ranked<C>>,
+    to: Bound<Ranked<C>>,
+) -> Option<Elem>
+    requires { IsForward (IsLeBy (order_of C.before)) (IsLtBy (order_of C.before)) from to }
+    ensures key { result ≡ first_key (entries_between (order_of C.before) from to rows.now.entries) }
+    ensures order { IsInOrder C.before rows.now.entries }
+{
+    match rows.range((from, to)).next() {
+        Some((key, _)) => Some(key.elem()),
+        None => None,
+    }
+}
+
+/// The last key between two bounds.
+pub(crate) fn last_between<V: Copy, C: Compare>(
+    rows: &BTreeMap<Ranked<C>, V>,
+    from: Bound<Ranked<C>>,
+    to: Bound<Ranked<C>>,
+) -> Option<Elem>
+    requires { IsForward (IsLeBy (order_of C.before)) (IsLtBy (order_of C.before)) from to }
+    ensures key { result ≡ last_key (entries_between (order_of C.before) from to rows.now.entries) }
+    ensures order { IsInOrder C.before rows.now.entries }
+{
+    match rows.range((from, to)).next_back() {
+        Some((key, _)) => Some(key.elem()),
+        None => None,
+    }
+}
