@@ -1,8 +1,7 @@
 -- A window's rows are those between its two bounds in a tree.
 use Rattle.std.proofs.Common.{◌≡◌, Bool, true, false, not, ◌&&◌, ◌⊎◌, inl, inr, List, [], ◌∷◌, Option, None, refl, sym, ap, ◌∙◌}
-use Rattle.std.specs.Prelude.{⊤}
 use Rattle.std.specs.List.{filter}
-use Rattle.std.specs.Ordering.{is_lt, is_le}
+use Rattle.std.specs.Ordering.{is_lt}
 use Rattle.std.specs.declared.cmp.Ordering.{Ordering}
 use Rattle.std.specs.declared.cmp.Ordering.TheVariants.{Less, Equal, Greater}
 use Rattle.std.specs.BTreeMap.Range.{IsLeBy, IsLtBy, entries_between, is_from_start, is_past_end, range_contains}
@@ -12,7 +11,7 @@ use Rattle.std.specs.declared.ops.Bound.TheVariants.{Excluded, Unbounded}
 use Rattle.elem.specs.declared.elements.Elem.{Elem}
 use Rattle.elem.specs.declared.cuts.Cut.{Cut}
 use Rattle.elem.specs.declared.cuts.Cut.TheVariants.{Start, Below, Above, End}
-use Rattle.elem.specs.Cuts.{cut_before, cut_upto, lies_between}
+use Rattle.elem.specs.Cuts.{cut_upto, lies_between}
 use Rattle.elem.specs.Orders.{IsStrictOrder}
 use Rattle.plain_base.specs.Ordered.{order_of}
 use Rattle.plain_base.specs.Sorted.{lower_bound, upper_bound, rows_between, rows_above, rows_below}

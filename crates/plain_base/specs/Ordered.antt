@@ -1,5 +1,5 @@
 -- An order of elements as the three answers of a comparison.
-use Rattle.std.specs.Prelude.{◌≡◌, ◌≢◌, Bool, true, false, not, cond, refl}
+use Rattle.std.specs.Prelude.{◌≡◌, Bool, true, false, not, cond, refl}
 use Rattle.std.proofs.Common.{sym, ap, ◌∙◌}
 use Rattle.std.specs.Cmp.{IsTotalOrder, strict}
 use Rattle.std.specs.Ordering.{is_eq, MatchOrdering}

@@ -13,3 +13,6 @@ pub use array_rows::ArrayRows;
 pub use free_array_rows::FreeArrayRows;
 pub use free_tree_map_rows::FreeTreeMapRows;
 pub use tree_map_rows::{TreeMapRows, TreeSetRows};
+
+#[cfg(test)]
+mod tests;

@@ -1,5 +1,4 @@
-use Rattle.std.proofs.Common.{◌≡◌, false, true, inl, inr, refl, sym, ◌∙◌}
-use Rattle.elem.specs.declared.cuts.Cut.TheVariants.{Start, End}
+use Rattle.std.proofs.Common.{inl, inr, refl}
 use Rattle.elem.specs.Rows.{first_key}
 use Rattle.plain_base.proofs.WindowLemmas.{window_none, window_some, window_is_forward}
 use Rattle.plain_base.proofs.free_tree_map_rows.FreeTreeMapRows.first_in.Goals as goal
