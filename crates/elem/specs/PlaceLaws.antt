@@ -1,5 +1,5 @@
 -- The places of cuts between whole numbers keep the order of the cuts.
-use Rattle.std.proofs.Common.{FitsSigned, ◌≡◌, ℕ, ℤ, pos, negsuc, ◌+◌, ◌^◌, ◌<◌, ◌≤◌, Bool, true, false, not, cond, refl, sym, ap, ◌∙◌, arith}
+use Rattle.std.proofs.Common.{FitsSigned, ◌≡◌, ◌≢◌, ℕ, ℤ, pos, negsuc, ◌+◌, ◌^◌, ◌<◌, ◌≤◌, Bool, true, false, not, cond, refl, sym, ap, ◌∙◌, arith}
 use Rattle.std.specs.Prelude.{int_lt, nat_lt, nat_le}
 use Rattle.std.specs.Int.{w64}
 use Rattle.std.specs.Ordering.{is_lt, ordering_then}
@@ -12,7 +12,7 @@ use Rattle.elem.specs.Elements.{natural_order}
 use Rattle.elem.specs.Orders.{natural_before}
 use Rattle.elem.specs.Cuts.{cut_before, IsCut, IsWholeCut}
 use Rattle.elem.specs.Spans.{upto}
-use Rattle.elem.specs.Places.{place, place_below}
+use Rattle.elem.specs.Places.{place, place_below, IsPlace}
 
 first_less : (a b : Bool) → is_lt (ordering_then (cond a Less (cond b Greater Equal)) Equal) ≡ a
 first_less true b = refl
@@ -88,3 +88,10 @@ places_in_order c d u v f g h = let test : nat_le (place c) (place d) ≡ true =
 
 pub cuts_in_order : (c d : Cut) → IsWholeCut c → IsWholeCut d → IsCut c → IsCut d → place c ≤ place d → upto c d ≡ true
 cuts_in_order c d u v f g h = upto-places c d u v f g ∙ (let test : nat_le (place c) (place d) ≡ true = grind (arith, nat_tests) in test)
+
+-- a cut whose place is before another stands before the end, and one whose place is after another behind the start
+pub not_end : (c : Cut) (x y : ℕ) → place c ≡ x → x < y → IsPlace y → c ≢ End
+not_end c x y e h p q = let t : place c ≡ 2 ^ 67 = ap place q in grind (arith, p)
+
+pub not_start : (c : Cut) (x y : ℕ) → place c ≡ y → x < y → c ≢ Start
+not_start c x y e h q = let t : place c ≡ 0 = ap place q in omega arith

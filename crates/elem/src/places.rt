@@ -1,8 +1,8 @@
 //! Cuts between whole numbers as places: natural numbers in the order of the cuts.
-ghost use Rattle.std.specs.Prelude.{◌≡◌, ◌+◌, ◌≤◌};
+ghost use Rattle.std.specs.Prelude.{◌≡◌, ◌+◌, ◌<◌, ◌≤◌};
 ghost use Rattle.elem.specs.Cuts.{IsCut, IsWholeCut};
 ghost use Rattle.elem.specs.Places.{IsPlace, place as place_of, place_below};
-ghost use Rattle.elem.specs.Spans.{IsWhole};
+ghost use Rattle.elem.specs.Spans.{IsSpan, IsWhole};
 
 use crate::{Cut, Elem, Span};
 
@@ -75,6 +75,7 @@ impl Span {
         requires hi { IsPlace hi }
         requires in_order { lo ≤ hi }
         ensures whole { IsWhole result }
+        ensures span { lo < hi → IsSpan result }
         ensures lo { place_of result.lo ≡ lo }
         ensures hi { place_of result.hi ≡ hi }
     {

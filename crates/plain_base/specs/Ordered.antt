@@ -23,9 +23,6 @@ order_of-ties before a b = by (same a b) (before a b)
     by false false = refl
 
 module _ {before : Elem → Elem → Bool} (o : IsStrictOrder before) where
-  IsBefore : Elem → Elem → Type 0
-  IsBefore a b = before a b ≡ true
-
   never_itself : (a : Elem) → ¬ (before a a ≡ true)
   never_itself a h = let f = o.irreflexive a in cc
 

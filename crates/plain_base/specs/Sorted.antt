@@ -1,9 +1,9 @@
 -- Rows in an order of their keys: where a new one goes, and parts of them by their keys.
 use Rattle.std.specs.Prelude.{◌≡◌, Bool, true, cond, ⊤, List, [], ◌∷◌}
 use Rattle.std.specs.List.{filter}
-use Rattle.elem.specs.declared.elements.Elem.{Elem}
 use Rattle.std.specs.declared.ops.Bound.{Bound}
 use Rattle.std.specs.declared.ops.Bound.TheVariants.{Included, Excluded, Unbounded}
+use Rattle.elem.specs.declared.elements.Elem.{Elem}
 use Rattle.elem.specs.declared.cuts.Cut.{Cut}
 use Rattle.elem.specs.declared.cuts.Cut.TheVariants.{Start, Below, Above, End}
 use Rattle.elem.specs.Cuts.{lies_between}
@@ -36,14 +36,14 @@ module _ {V : Type 0} where
   abbrev pub rows_below : (Elem → Elem → Bool) → Elem → List (Elem × V) → List (Elem × V)
   rows_below before k rows = filter (λ row. before row.0 k) rows
 
--- where the elements above a cut begin
+-- where the keys of a tree that lie above a cut begin
 abbrev pub lower_bound : Cut → Bound Elem
 lower_bound (Below k) = Included k
 lower_bound (Above k) = Excluded k
 lower_bound Start = Unbounded
 lower_bound End = Unbounded
 
--- where the elements below a cut end
+-- where the keys of a tree that lie below a cut end
 abbrev pub upper_bound : Cut → Bound Elem
 upper_bound (Below k) = Excluded k
 upper_bound (Above k) = Included k

@@ -1,5 +1,5 @@
 -- Rows that begin and end at cuts between whole numbers.
-use Rattle.std.specs.Prelude.{ℕ, ◌≤◌, List, [], ◌∷◌, ⊤}
+use Rattle.std.specs.Prelude.{ℕ, ◌<◌, List, [], ◌∷◌, ⊤}
 use Rattle.elem.specs.Places.{IsPlace}
 use Rattle.range_base.specs.Rows.{Row, IsDisjoint, IsApart}
 
@@ -19,8 +19,8 @@ module _ {V : Type 0} where
     pub apart : IsApart rows
     pub places : AllEnds IsPlace rows
 
-  -- a row that can be read as a range
+  -- a row that can be read as a range that is not empty
   pub record IsShowable (row : Row V) : Type 0 where
     pub lo : IsPlace row.0
     pub hi : IsPlace row.1.end
-    pub in_order : row.0 ≤ row.1.end
+    pub in_order : row.0 < row.1.end

@@ -2,7 +2,7 @@ ghost use Rattle.std.specs.Prelude.{◌≡◌, ◌↔◌, false, length, [], Som
 ghost use Rattle.std.specs.Option.{option_map};
 ghost use Rattle.elem.specs.Cuts.{IsWholeCut};
 ghost use Rattle.elem.specs.Places.{place};
-ghost use Rattle.elem.specs.Spans.{IsWhole};
+ghost use Rattle.elem.specs.Spans.{IsSpan, IsWhole};
 ghost use Rattle.range_base.specs.Edits.{cut_out, put};
 ghost use Rattle.range_base.specs.Ends.{IsMapRows, IsShowable};
 ghost use Rattle.range_base.specs.Reads.{at, first_after, first_row, last_up_to};
@@ -51,6 +51,7 @@ fn shown(row: Option<(u128, Part<Elem>)>) -> Option<(Span, Elem)>
     requires { IfSome row IsShowable }
     ensures row { option_map row_of_entry result ≡ row }
     ensures whole { IfSome result (λ t. IsWhole t.0) }
+    ensures span { IfSome result (λ t. IsSpan t.0) }
 {
     match row {
         Some((start, part)) => Some((Span::at(start, part.end), part.value)),
@@ -126,6 +127,7 @@ impl FreeRangeMapRows {
         requires { IsWholeCut c.now }
         ensures row { option_map row_of_entry result ≡ last_up_to (place c.now) self.now }
         ensures whole { IfSome result (λ t. IsWhole t.0) }
+        ensures span { IfSome result (λ t. IsSpan t.0) }
     {
         shown(row_up_to(&self.rows, c.place()))
     }
@@ -134,6 +136,7 @@ impl FreeRangeMapRows {
     pub fn first(&self) -> Option<(Span, Elem)>
         ensures row { option_map row_of_entry result ≡ first_row self.now }
         ensures whole { IfSome result (λ t. IsWhole t.0) }
+        ensures span { IfSome result (λ t. IsSpan t.0) }
     {
         shown(first_row(&self.rows))
     }
@@ -143,6 +146,7 @@ impl FreeRangeMapRows {
         requires { IsWhole s.now }
         ensures row { option_map row_of_entry result ≡ first_after (place s.now.lo) self.now }
         ensures whole { IfSome result (λ t. IsWhole t.0) }
+        ensures span { IfSome result (λ t. IsSpan t.0) }
     {
         shown(row_after(&self.rows, s.lo.place()))
     }

@@ -2,7 +2,7 @@ ghost use Rattle.std.specs.Prelude.{◌≡◌, ◌↔◌, ℕ, ⊤, false, lengt
 ghost use Rattle.std.specs.Option.{option_map};
 ghost use Rattle.elem.specs.Cuts.{IsWholeCut};
 ghost use Rattle.elem.specs.Places.{place};
-ghost use Rattle.elem.specs.Spans.{IsWhole};
+ghost use Rattle.elem.specs.Spans.{IsSpan, IsWhole};
 ghost use Rattle.range_base.specs.Edits.{add, cut_out};
 ghost use Rattle.range_base.specs.Ends.{IsSetRows, IsShowable};
 ghost use Rattle.range_base.specs.Reads.{at, first_after, first_row, last_up_to};
@@ -50,6 +50,7 @@ fn shown(row: Option<(u128, Part<()>)>) -> Option<Span>
     requires { IfSome row IsShowable }
     ensures row { option_map row_of_span result ≡ row }
     ensures whole { IfSome result IsWhole }
+    ensures span { IfSome result IsSpan }
 {
     match row {
         Some((start, part)) => Some(Span::at(start, part.end)),
@@ -127,6 +128,7 @@ impl FreeRangeRows {
         requires { IsWholeCut c.now }
         ensures row { option_map row_of_span result ≡ last_up_to (place c.now) self.now }
         ensures whole { IfSome result IsWhole }
+        ensures span { IfSome result IsSpan }
     {
         shown(row_up_to(&self.rows, c.place()))
     }
@@ -135,6 +137,7 @@ impl FreeRangeRows {
     pub fn first(&self) -> Option<Span>
         ensures row { option_map row_of_span result ≡ first_row self.now }
         ensures whole { IfSome result IsWhole }
+        ensures span { IfSome result IsSpan }
     {
         shown(first_row(&self.rows))
     }
@@ -144,6 +147,7 @@ impl FreeRangeRows {
         requires { IsWhole s.now }
         ensures row { option_map row_of_span result ≡ first_after (place s.now.lo) self.now }
         ensures whole { IfSome result IsWhole }
+        ensures span { IfSome result IsSpan }
     {
         shown(row_after(&self.rows, s.lo.place()))
     }

@@ -2,7 +2,7 @@ ghost use Rattle.std.specs.Prelude.{◌≡◌, ◌↔◌, ◌+◌, false, length
 ghost use Rattle.std.specs.Option.{option_map};
 ghost use Rattle.elem.specs.Cuts.{IsWholeCut};
 ghost use Rattle.elem.specs.Places.{place};
-ghost use Rattle.elem.specs.Spans.{IsWhole};
+ghost use Rattle.elem.specs.Spans.{IsSpan, IsWhole};
 ghost use Rattle.range_base.specs.Edits.{cut_out, put};
 ghost use Rattle.range_base.specs.Ends.{IsMapRows};
 ghost use Rattle.range_base.specs.Reads.{first_after, first_row, last_up_to};
@@ -97,6 +97,7 @@ impl RangeMapRows {
         requires { IsWholeCut c.now }
         ensures row { option_map row_of_entry result ≡ last_up_to (place c.now) self.now }
         ensures whole { IfSome result (λ t. IsWhole t.0) }
+        ensures span { IfSome result (λ t. IsSpan t.0) }
         ensures step { steps.new ≡ steps.old + 1 }
     {
         steps.tick();
@@ -107,6 +108,7 @@ impl RangeMapRows {
     pub fn first<L: Ledger>(&self, steps: &mut Steps<L>) -> Option<(Span, Elem)>
         ensures row { option_map row_of_entry result ≡ first_row self.now }
         ensures whole { IfSome result (λ t. IsWhole t.0) }
+        ensures span { IfSome result (λ t. IsSpan t.0) }
         ensures step { steps.new ≡ steps.old + 1 }
     {
         steps.tick();
@@ -118,6 +120,7 @@ impl RangeMapRows {
         requires { IsWhole s.now }
         ensures row { option_map row_of_entry result ≡ first_after (place s.now.lo) self.now }
         ensures whole { IfSome result (λ t. IsWhole t.0) }
+        ensures span { IfSome result (λ t. IsSpan t.0) }
         ensures step { steps.new ≡ steps.old + 1 }
     {
         steps.tick();

@@ -2,7 +2,7 @@ ghost use Rattle.std.specs.Prelude.{◌≡◌, ◌↔◌, ◌+◌, ℕ, ⊤, fal
 ghost use Rattle.std.specs.Option.{option_map};
 ghost use Rattle.elem.specs.Cuts.{IsWholeCut};
 ghost use Rattle.elem.specs.Places.{place};
-ghost use Rattle.elem.specs.Spans.{IsWhole};
+ghost use Rattle.elem.specs.Spans.{IsSpan, IsWhole};
 ghost use Rattle.range_base.specs.Edits.{add, cut_out};
 ghost use Rattle.range_base.specs.Ends.{IsSetRows};
 ghost use Rattle.range_base.specs.Reads.{at, first_after, first_row, last_up_to};
@@ -92,6 +92,7 @@ impl RangeRows {
         requires { IsWholeCut c.now }
         ensures row { option_map row_of_span result ≡ last_up_to (place c.now) self.now }
         ensures whole { IfSome result IsWhole }
+        ensures span { IfSome result IsSpan }
         ensures step { steps.new ≡ steps.old + 1 }
     {
         steps.tick();
@@ -102,6 +103,7 @@ impl RangeRows {
     pub fn first<L: Ledger>(&self, steps: &mut Steps<L>) -> Option<Span>
         ensures row { option_map row_of_span result ≡ first_row self.now }
         ensures whole { IfSome result IsWhole }
+        ensures span { IfSome result IsSpan }
         ensures step { steps.new ≡ steps.old + 1 }
     {
         steps.tick();
@@ -113,6 +115,7 @@ impl RangeRows {
         requires { IsWhole s.now }
         ensures row { option_map row_of_span result ≡ first_after (place s.now.lo) self.now }
         ensures whole { IfSome result IsWhole }
+        ensures span { IfSome result IsSpan }
         ensures step { steps.new ≡ steps.old + 1 }
     {
         steps.tick();
