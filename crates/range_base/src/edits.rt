@@ -4,7 +4,8 @@ ghost use Rattle.range_base.specs.Rows.{IsDisjoint, part as part_of};
 ghost use Rattle.range_base.specs.Edits.{without_units, put};
 
 use crate::part::Part;
-use crate::tree::{remove_between, row_across, shorten, take_back, write_row, write_tail};
+use crate::reads::row_across;
+use crate::writes::{remove_between, shorten, take_back, write_row, write_tail};
 use elem::NoMemory;
 use std::collections::BTreeMap;
 

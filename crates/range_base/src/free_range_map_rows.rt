@@ -11,7 +11,7 @@ ghost use Rattle.range_base.specs.Spans.{row_of_entry};
 
 use crate::edits::{cut_rows, put_rows};
 use crate::part::Part;
-use crate::tree::{first_row, overlaps, row_after, row_up_to};
+use crate::reads::{first_row, overlaps, row_after, row_up_to};
 use elem::{Cut, Elem, NoMemory, Span, same};
 use std::alloc::Global;
 use std::collections::BTreeMap;

@@ -11,7 +11,7 @@ ghost use Rattle.range_base.specs.Spans.{row_of_span};
 
 use crate::edits::{cut_rows, put_rows};
 use crate::part::Part;
-use crate::tree::{end_at, first_row, overlaps, row_after, row_up_to, start_at};
+use crate::reads::{end_at, first_row, overlaps, row_after, row_up_to, start_at};
 use elem::{Cut, NoMemory, Span};
 use std::alloc::Global;
 use std::collections::BTreeMap;

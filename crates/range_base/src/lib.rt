@@ -8,7 +8,8 @@ mod free_range_rows;
 mod part;
 mod range_map_rows;
 mod range_rows;
-mod tree;
+mod reads;
+mod writes;
 
 pub use free_range_map_rows::FreeRangeMapRows;
 pub use free_range_rows::FreeRangeRows;
