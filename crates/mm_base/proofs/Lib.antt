@@ -1,0 +1,4 @@
+pub mod PairRowsLemmas
+pub mod PairsSteps
+pub mod PairsReads
+pub mod HeldPairs

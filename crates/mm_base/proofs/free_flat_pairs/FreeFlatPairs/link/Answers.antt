@@ -1,0 +1,75 @@
+use Rattle.std.proofs.Common.{◌≡◌, ℕ, ◌+◌, ◌<◌, ◌≤◌, Option, Some, None, refl, sym, ap, ◌∙◌, subst, arith, slice_get}
+use Rattle.std.specs.Prelude.{IsSome, nat_eq}
+use Rattle.std.specs.Map.{lookup, remove_entry}
+use Rattle.std.specs.HashMap as hash
+use Rattle.elem.specs.Elements.{same}
+use Rattle.elem.specs.Rows.{first_key, key_after}
+use Rattle.linked_base.specs.declared.group.Group.{Group}
+use Rattle.linked_base.specs.Group.{of_key}
+use Rattle.mm_base.specs.PairNodes.{key_at, with_group}
+use Rattle.mm_base.specs.PairRows.{Row, pairs_of_key, put_before}
+use Rattle.mm_base.proofs.HeldPairs.{held, still_holds, shows, len_held, distinct_held, first_held, count_held, count_fits, group_thread, nth_held, new_held, node_held, value_held, after_held, after_in_key_held, group_held, unlinked_held, linked_held, roomier_held, in_key_held}
+use Rattle.mm_base.proofs.free_flat_pairs.FreeFlatPairs.link.Goals as goal
+
+pub invariant_of-self : goal.invariant_of-self
+invariant_of-self c =
+    let find = hash.get same c.self.inside.groups in
+    still_holds find (roomier_held c.self.inside.nodes c.reserve.new.self find find c.reserve.ensures.rest_kept (λ k. refl) (held find c.self.invariant c.self.view_is)) find (λ k. refl)
+
+pub returns-then-is_err-clause-err : goal.returns-then-is_err-clause-err
+returns-then-is_err-clause-err c =
+    let find = hash.get same c.self.inside.groups in
+    shows find (roomier_held c.self.inside.nodes c.reserve.new.self find find c.reserve.ensures.rest_kept (λ k. refl) (held find c.self.invariant c.self.view_is))
+
+pub invariant_of-self-then-is_err-2 : goal.invariant_of-self-then-is_err-2
+invariant_of-self-then-is_err-2 c =
+    let find = hash.get same c.self.inside.groups in
+    let found = hash.get same c.reserve-2.new.self in
+    let h = roomier_held c.self.inside.nodes c.reserve.new.self find found c.reserve.ensures.rest_kept c.reserve-2.ensures.entries.2 (held find c.self.invariant c.self.view_is) in
+    still_holds found h found (λ k. refl)
+
+pub returns-then-is_err-2-clause-err : goal.returns-then-is_err-2-clause-err
+returns-then-is_err-2-clause-err c =
+    let find = hash.get same c.self.inside.groups in
+    let found = hash.get same c.reserve-2.new.self in
+    let h = roomier_held c.self.inside.nodes c.reserve.new.self find found c.reserve.ensures.rest_kept c.reserve-2.ensures.entries.2 (held find c.self.invariant c.self.view_is) in
+    shows found h
+
+pub link_pair-requires-clause-next : goal.link_pair-requires-clause-next
+link_pair-requires-clause-next c q e =
+    let find = hash.get same c.self.inside.groups in
+    let found = hash.get same c.reserve-2.new.self in
+    let h = roomier_held c.self.inside.nodes c.reserve.new.self find found c.reserve.ensures.rest_kept c.reserve-2.ensures.entries.2 (held find c.self.invariant c.self.view_is) in
+    node_held found h q (c.requires.next q e)
+
+pub link_pair-requires-clause-next_in_key : goal.link_pair-requires-clause-next_in_key
+link_pair-requires-clause-next_in_key c q e =
+    let find = hash.get same c.self.inside.groups in
+    let found = hash.get same c.reserve-2.new.self in
+    let h = roomier_held c.self.inside.nodes c.reserve.new.self find found c.reserve.ensures.rest_kept c.reserve-2.ensures.entries.2 (held find c.self.invariant c.self.view_is) in
+    in_key_held found h c.args.k.now c.args.next c.args.next_in_key c.requires.next c.requires.in_key q e
+
+pub link_pair-requires-clause-counted : goal.link_pair-requires-clause-counted
+link_pair-requires-clause-counted c =
+    let find = hash.get same c.self.inside.groups in
+    let found = hash.get same c.reserve-2.new.self in
+    let h = roomier_held c.self.inside.nodes c.reserve.new.self find found c.reserve.ensures.rest_kept c.reserve-2.ensures.entries.2 (held find c.self.invariant c.self.view_is) in
+    let count = ap (λ (g : Group). g.count) c.group_of-group.ensures in
+    let fits = count_fits found h c.args.k.now in
+    omega arith
+
+pub invariant_of-self-2 : goal.invariant_of-self-2
+invariant_of-self-2 c =
+    let find = hash.get same c.self.inside.groups in
+    let found = hash.get same c.reserve-2.new.self in
+    let h = roomier_held c.self.inside.nodes c.reserve.new.self find found c.reserve.ensures.rest_kept c.reserve-2.ensures.entries.2 (held find c.self.invariant c.self.view_is) in
+    let after = linked_held found h c.link_pair.new.nodes c.link_pair.new.all c.group_of-group.result c.link_pair.new.group c.args.k.now c.args.v.now c.args.next c.args.next_in_key c.link_pair.result c.group_of-group.ensures c.requires.next c.requires.in_key c.link_pair.ensures.pairs c.link_pair.ensures.rows in
+    still_holds (with_group c.args.k.now c.link_pair.new.group found) after (hash.get same c.write_group.new.groups) c.write_group.ensures
+
+pub returns-clause-ok : goal.returns-clause-ok
+returns-clause-ok c =
+    let find = hash.get same c.self.inside.groups in
+    let found = hash.get same c.reserve-2.new.self in
+    let h = roomier_held c.self.inside.nodes c.reserve.new.self find found c.reserve.ensures.rest_kept c.reserve-2.ensures.entries.2 (held find c.self.invariant c.self.view_is) in
+    let after = linked_held found h c.link_pair.new.nodes c.link_pair.new.all c.group_of-group.result c.link_pair.new.group c.args.k.now c.args.v.now c.args.next c.args.next_in_key c.link_pair.result c.group_of-group.ensures c.requires.next c.requires.in_key c.link_pair.ensures.pairs c.link_pair.ensures.rows in
+    (c.link_pair.result, new_held found h c.link_pair.result c.link_pair.ensures.fresh, shows (with_group c.args.k.now c.link_pair.new.group found) after)

@@ -1,0 +1,2 @@
+pub mod PairNodes
+pub mod PairRows

@@ -1,0 +1,191 @@
+ghost use Rattle.std.specs.Prelude.{◌≡◌, ◌+◌, ◌<◌, ◌≤◌, [], length, None, Some, nat_eq, IsTrue, IfOk, OnOk, OnErr};
+ghost use Rattle.elem.specs.Rows.{first_key, key_after};
+ghost use Rattle.mm_base.specs.PairRows.{HasDistinctIds, IsLive, pair_of, rows_beside, count_of, id_of, has_pair, pair_at, with_pair, IsPut, without_id, without_pair, without_key};
+
+use crate::{FreeFlatPairs, PairId};
+use elem::{Elem, NoMemory, Steps};
+use std::alloc::Global;
+use std::marker::Model;
+use std::sync::ledger::Ledger;
+
+/// Pairs in the order of their putting, a key with many values, equal ones too, as Guava's `LinkedListMultimap`. Each
+/// call that takes `steps` counts one.
+#[derive(Drop)]
+pub struct FlatPairs {
+    free: FreeFlatPairs,
+}
+
+impl Model for FlatPairs {
+    ghost use Rattle.std.specs.Prelude.{List};
+    ghost use Rattle.mm_base.specs.PairRows.{Row};
+
+    ghost Value = { List Row };
+
+    ghost view = { λ m. m.free };
+}
+
+impl FlatPairs {
+    /// No pairs.
+    pub fn new(alloc: Global) -> Result<FlatPairs, NoMemory>
+        ensures { IfOk result (λ m. m ≡ []) }
+    {
+        Ok(FlatPairs {
+            free: FreeFlatPairs::new(alloc),
+        })
+    }
+
+    /// The number of pairs.
+    pub fn len(&self) -> usize
+        ensures len { result ≡ length self.now }
+        ensures distinct { HasDistinctIds self.now }
+    {
+        self.free.len()
+    }
+
+    /// The number of a key's pairs.
+    pub fn count_of<L: Ledger>(&self, k: Elem, steps: &mut Steps<L>) -> usize
+        ensures count { result ≡ count_of k self.now }
+        ensures step { steps.new ≡ steps.old + 1 }
+    {
+        steps.tick();
+        self.free.count_of(k)
+    }
+
+    /// Whether there is a pair of a key and a value.
+    pub fn has<L: Ledger>(&self, k: Elem, v: Elem, steps: &mut Steps<L>) -> bool
+        ensures answer { result ≡ has_pair k v self.now }
+        ensures step { steps.new ≡ steps.old + 1 }
+    {
+        steps.tick();
+        self.free.has(k, v)
+    }
+
+    /// A key's pair number `i`.
+    pub fn at<L: Ledger>(&self, k: Elem, i: usize, steps: &mut Steps<L>) -> Option<PairId>
+        ensures id { result ≡ id_of k i self.now }
+        ensures step { steps.new ≡ steps.old + 1 }
+    {
+        steps.tick();
+        self.free.at(k, i)
+    }
+
+    /// The key and the value of a pair.
+    pub fn pair<L: Ledger>(&self, p: PairId, steps: &mut Steps<L>) -> (Elem, Elem)
+        requires { IsLive self.now p }
+        ensures pair { pair_of self.now p ≡ Some result }
+        ensures step { steps.new ≡ steps.old + 1 }
+    {
+        steps.tick();
+        self.free.pair(p)
+    }
+
+    /// The first pair.
+    pub fn first_pair<L: Ledger>(&self, steps: &mut Steps<L>) -> Option<PairId>
+        ensures id { result ≡ first_key self.now }
+        ensures step { steps.new ≡ steps.old + 1 }
+    {
+        steps.tick();
+        self.free.first_pair()
+    }
+
+    /// The pair after another.
+    pub fn after_pair<L: Ledger>(&self, p: PairId, steps: &mut Steps<L>) -> Option<PairId>
+        requires { IsLive self.now p }
+        ensures id { result ≡ key_after (nat_eq p) self.now }
+        ensures step { steps.new ≡ steps.old + 1 }
+    {
+        steps.tick();
+        self.free.after_pair(p)
+    }
+
+    /// The pair after another of its key.
+    pub fn after_in_key<L: Ledger>(&self, p: PairId, steps: &mut Steps<L>) -> Option<PairId>
+        requires { IsLive self.now p }
+        ensures id { result ≡ key_after (nat_eq p) (rows_beside (pair_of self.now p) self.now) }
+        ensures step { steps.new ≡ steps.old + 1 }
+    {
+        steps.tick();
+        self.free.after_in_key(p)
+    }
+
+    /// Puts a pair, last. The answer is that the size grew.
+    pub fn put<L: Ledger>(
+        &mut self,
+        k: Elem,
+        v: Elem,
+        steps: &mut Steps<L>,
+    ) -> Result<bool, NoMemory>
+        ensures grew { IfOk result (λ grew. IsTrue grew) }
+        ensures ok { OnOk result (IsPut None k v self.old self.new) }
+        ensures err { OnErr result (self.new ≡ self.old) }
+        ensures step { steps.new ≡ steps.old + 1 }
+    {
+        steps.tick();
+        self.free.put(k, v)
+    }
+
+    /// Puts a pair before its key's pair number `i`, or last of all where the key has just `i`.
+    pub fn put_at<L: Ledger>(
+        &mut self,
+        k: Elem,
+        i: usize,
+        v: Elem,
+        steps: &mut Steps<L>,
+    ) -> Result<(), NoMemory>
+        requires { i ≤ count_of k self.old }
+        ensures ok { OnOk result (IsPut (id_of k i self.old) k v self.old self.new) }
+        ensures err { OnErr result (self.new ≡ self.old) }
+        ensures step { steps.new ≡ steps.old + 1 }
+    {
+        steps.tick();
+        self.free.put_at(k, i, v)
+    }
+
+    /// Gives a key's pair number `i` another value, and tells the one before. The pair keeps its place and its id.
+    pub fn set_at<L: Ledger>(&mut self, k: Elem, i: usize, v: Elem, steps: &mut Steps<L>) -> Elem
+        requires { i < count_of k self.old }
+        ensures value { pair_at (id_of k i self.old) self.old ≡ Some (k, result) }
+        ensures rows { self.new ≡ with_pair (id_of k i self.old) (k, v) self.old }
+        ensures step { steps.new ≡ steps.old + 1 }
+    {
+        steps.tick();
+        self.free.set_at(k, i, v)
+    }
+
+    /// Removes the first pair of a key and a value, and tells whether there was one.
+    pub fn remove_pair<L: Ledger>(&mut self, k: Elem, v: Elem, steps: &mut Steps<L>) -> bool
+        ensures answer { result ≡ has_pair k v self.old }
+        ensures rows { self.new ≡ without_pair k v self.old }
+        ensures step { steps.new ≡ steps.old + 1 }
+    {
+        steps.tick();
+        self.free.remove_pair(k, v)
+    }
+
+    /// Removes the pairs of a key, and tells their number.
+    pub fn remove_key<L: Ledger>(&mut self, k: Elem, steps: &mut Steps<L>) -> usize
+        ensures answer { result ≡ count_of k self.old }
+        ensures rows { self.new ≡ without_key k self.old }
+        ensures step { steps.new ≡ steps.old + 1 }
+    {
+        steps.tick();
+        self.free.remove_key(k)
+    }
+
+    /// Removes a pair.
+    pub fn remove_id<L: Ledger>(&mut self, p: PairId, steps: &mut Steps<L>)
+        requires { IsLive self.old p }
+        ensures rows { self.new ≡ without_id (Some p) self.old }
+        ensures step { steps.new ≡ steps.old + 1 }
+    {
+        steps.tick();
+        self.free.remove_id(p);
+    }
+
+    /// Removes every pair.
+    pub fn clear(&mut self)
+        ensures { self.new ≡ [] }
+    {
+        self.free.clear();
+    }
+}

@@ -1,0 +1,267 @@
+ghost use Rattle.std.specs.Prelude.{◌≡◌, ℕ, ◌<◌, ◌≤◌, List, [], length, Option, Some, None, IsTrue, IfOk, OnOk, OnErr};
+ghost use Rattle.std.specs.Map.{set_value};
+ghost use Rattle.elem.specs.declared.elements.Elem.{Elem as Key};
+ghost use Rattle.elem.specs.Rows.{first_key, last_key, key_after, key_before};
+ghost use Rattle.std.specs.Prelude.{nat_eq};
+ghost use Rattle.mm_base.specs.PairRows.{HasDistinctIds, IsLive, pair_of, pairs_of_key, rows_beside, count_of, id_of, has_pair, rows_of_pair, pair_at, with_pair, put_before, rows_from, IsPut, without_id, without_pair, without_key};
+
+use crate::pair_id::{PairId, id_at, place_of, some_id};
+use crate::pair_nodes::{PairNode, PairsOfKey, find_value, link_pair, unlink_pair, write_value};
+use elem::{Elem, NoMemory};
+use linked_base::group::{Group, group_of, keep_group, write_group};
+use linked_base::thread::{Ends, nth};
+use slab::Slab;
+use std::alloc::Global;
+use std::collections::HashMap;
+use std::marker::Model;
+
+/// Pairs in the order of their putting, a key with many values, equal ones too, as Guava's `LinkedListMultimap`. Its
+/// calls are not counted.
+#[derive(Drop)]
+pub struct FreeFlatPairs {
+    nodes: Slab<PairNode>,
+    groups: HashMap<Elem, Group>,
+    all: Ends,
+}
+
+impl Model for FreeFlatPairs {
+    ghost use Rattle.std.specs.Prelude.{List};
+    ghost use Rattle.std.specs.HashMap as hash;
+    ghost use Rattle.elem.specs.Elements.{same};
+    ghost use Rattle.mm_base.specs.PairRows.{Row};
+
+    ghost Value = { List Row };
+
+    ghost use Rattle.mm_base.specs.PairNodes.{pairs_now, places, ArePairs};
+
+    ghost view = { λ m. pairs_now m.nodes m.all };
+
+    ghost invariant = { λ m. ArePairs m.nodes m.all (hash.get same m.groups) (places m.nodes m.all) };
+}
+
+impl FreeFlatPairs {
+    /// No pairs.
+    pub fn new(alloc: Global) -> FreeFlatPairs
+        ensures { result ≡ [] }
+    {
+        FreeFlatPairs {
+            nodes: Slab::new(alloc),
+            groups: HashMap::new(alloc),
+            all: Ends {
+                first: None,
+                last: None,
+            },
+        }
+    }
+
+    /// The number of pairs.
+    pub fn len(&self) -> usize
+        ensures len { result ≡ length self.now }
+        ensures distinct { HasDistinctIds self.now }
+    {
+        self.nodes.len()
+    }
+
+    /// The number of a key's pairs.
+    pub fn count_of(&self, k: Elem) -> usize
+        ensures { result ≡ count_of k self.now }
+    {
+        group_of(&self.groups, &k).count
+    }
+
+    /// Whether there is a pair of a key and a value.
+    pub fn has(&self, k: Elem, v: Elem) -> bool
+        ensures { result ≡ has_pair k v self.now }
+    {
+        self.find(&k, &v).is_some()
+    }
+
+    /// A key's pair number `i`.
+    pub fn at(&self, k: Elem, i: usize) -> Option<PairId>
+        ensures { result ≡ id_of k i self.now }
+    {
+        some_id(self.place_at(&k, i))
+    }
+
+    /// The key and the value of a pair.
+    pub fn pair(&self, p: PairId) -> (Elem, Elem)
+        requires { IsLive self.now p }
+        ensures { pair_of self.now p ≡ Some result }
+    {
+        let node = &self.nodes[place_of(p)];
+        (node.key, node.value)
+    }
+
+    /// The first pair.
+    pub fn first_pair(&self) -> Option<PairId>
+        ensures { result ≡ first_key self.now }
+    {
+        some_id(self.all.first)
+    }
+
+    /// The pair after another.
+    pub fn after_pair(&self, p: PairId) -> Option<PairId>
+        requires { IsLive self.now p }
+        ensures { result ≡ key_after (nat_eq p) self.now }
+    {
+        some_id(self.nodes[place_of(p)].all.next)
+    }
+
+    /// The pair after another of its key.
+    pub fn after_in_key(&self, p: PairId) -> Option<PairId>
+        requires { IsLive self.now p }
+        ensures { result ≡ key_after (nat_eq p) (rows_beside (pair_of self.now p) self.now) }
+    {
+        some_id(self.nodes[place_of(p)].of_key.next)
+    }
+
+    /// Puts a pair, last. The answer is that the size grew.
+    pub fn put(&mut self, k: Elem, v: Elem) -> Result<bool, NoMemory>
+        ensures grew { IfOk result (λ grew. IsTrue grew) }
+        ensures ok { OnOk result (IsPut None k v self.old self.new) }
+        ensures err { OnErr result (self.new ≡ self.old) }
+    {
+        self.link(&k, &v, None, None)?;
+        Ok(true)
+    }
+
+    /// Puts a pair before its key's pair number `i`, or last of all where the key has just `i`.
+    pub fn put_at(&mut self, k: Elem, i: usize, v: Elem) -> Result<(), NoMemory>
+        requires { i ≤ count_of k self.old }
+        ensures ok { OnOk result (IsPut (id_of k i self.old) k v self.old self.new) }
+        ensures err { OnErr result (self.new ≡ self.old) }
+    {
+        let next = self.place_at(&k, i);
+        self.link(&k, &v, next, next)
+    }
+
+    /// Gives a key's pair number `i` another value, and tells the one before. The pair keeps its place and its id.
+    pub fn set_at(&mut self, k: Elem, i: usize, v: Elem) -> Elem
+        requires { i < count_of k self.old }
+        ensures value { pair_at (id_of k i self.old) self.old ≡ Some (k, result) }
+        ensures rows { self.new ≡ with_pair (id_of k i self.old) (k, v) self.old }
+    {
+        let place = self.place_at(&k, i).unwrap();
+        self.write(place, &v)
+    }
+
+    /// Removes the first pair of a key and a value, and tells whether there was one.
+    pub fn remove_pair(&mut self, k: Elem, v: Elem) -> bool
+        ensures answer { result ≡ has_pair k v self.old }
+        ensures rows { self.new ≡ without_pair k v self.old }
+    {
+        match self.find(&k, &v) {
+            None => false,
+            Some(place) => {
+                self.remove_at(place);
+                true
+            }
+        }
+    }
+
+    /// Removes the pairs of a key, and tells their number.
+    pub fn remove_key(&mut self, k: Elem) -> usize
+        ensures answer { result ≡ count_of k self.old }
+        ensures rows { self.new ≡ without_key k self.old }
+    {
+        let count = group_of(&self.groups, &k).count;
+        for _step in 0..count {
+            if let Some(place) = self.place_at(&k, 0) {
+                self.remove_at(place);
+            }
+        }
+        count
+    }
+
+    /// Removes a pair.
+    pub fn remove_id(&mut self, p: PairId)
+        requires { IsLive self.old p }
+        ensures { self.new ≡ without_id (Some p) self.old }
+    {
+        self.remove_at(place_of(p));
+    }
+
+    /// Removes every pair.
+    pub fn clear(&mut self)
+        ensures { self.new ≡ [] }
+    {
+        self.nodes.clear();
+        self.groups.clear();
+        self.all = Ends {
+            first: None,
+            last: None,
+        };
+    }
+
+    /// The place of a key's pair number `i`.
+    fn place_at(&self, k: &Elem, i: usize) -> Option<usize>
+        ensures place { result ≡ id_of k.now i self.now }
+        ensures distinct { HasDistinctIds self.now }
+    {
+        let group = group_of(&self.groups, k);
+        nth::<PairsOfKey, PairNode>(&self.nodes, &group.ends, i)
+    }
+
+    /// The place of the first pair of a key and a value.
+    fn find(&self, k: &Elem, v: &Elem) -> Option<usize>
+        ensures { result ≡ first_key (rows_of_pair k.now v.now self.now) }
+    {
+        let group = group_of(&self.groups, k);
+        find_value(&self.nodes, &group, v)
+    }
+
+    /// Gives the pair at a place another value, and tells the one before.
+    fn write(&mut self, place: usize, v: &Elem) -> Elem
+        requires { IsLive self.old place }
+        ensures value { (k w : Key) → pair_of self.old place ≡ Some (k, w) → result ≡ w }
+        ensures rows { (k w : Key) → pair_of self.old place ≡ Some (k, w) → self.new ≡ with_pair (Some place) (k, v.now) self.old }
+    {
+        let before = self.nodes[place].value;
+        write_value(&mut self.nodes, place, v);
+        before
+    }
+
+    /// Removes the pair at a place.
+    fn remove_at(&mut self, place: usize)
+        requires { IsLive self.old place }
+        ensures { self.new ≡ without_id (Some place) self.old }
+    {
+        let key = self.nodes[place].key;
+        let mut group = group_of(&self.groups, &key);
+        unlink_pair(&mut self.nodes, &mut self.all, &mut group, place);
+        keep_group(&mut self.groups, &key, group);
+    }
+
+    /// Puts a pair before that at the place `next`, or last, and in its key before that at `next_in_key`, or last there.
+    fn link(
+        &mut self,
+        k: &Elem,
+        v: &Elem,
+        next: Option<usize>,
+        next_in_key: Option<usize>,
+    ) -> Result<(), NoMemory>
+        requires next { (q : ℕ) → next ≡ Some q → IsLive self.old q }
+        requires in_key { next_in_key ≡ first_key (pairs_of_key k.now (rows_from next self.old)) }
+        ensures ok { OnOk result (IsPut next k.now v.now self.old self.new) }
+        ensures err { OnErr result (self.new ≡ self.old) }
+    {
+        if self.nodes.reserve(1).is_err() {
+            return Err(NoMemory);
+        }
+        if self.groups.reserve(1).is_err() {
+            return Err(NoMemory);
+        }
+        let mut group = group_of(&self.groups, k);
+        link_pair(
+            &mut self.nodes,
+            &mut self.all,
+            &mut group,
+            k,
+            v,
+            next,
+            next_in_key,
+        );
+        write_group(&mut self.groups, k, group);
+        Ok(())
+    }
+}

@@ -1,0 +1,13 @@
+//! Multimaps as `java.util` has none and Guava does: pairs of a key and a value, in an order that the type gives, each with
+//! an id that it keeps. The pairs are nodes of a slab, and a thread through all nodes and one through those of each key
+//! decide their order.
+#![tactic(auto)]
+
+mod flat_pairs;
+mod free_flat_pairs;
+mod pair_id;
+mod pair_nodes;
+
+pub use flat_pairs::FlatPairs;
+pub use free_flat_pairs::FreeFlatPairs;
+pub use pair_id::PairId;
