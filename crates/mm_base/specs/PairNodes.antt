@@ -1,6 +1,6 @@
 -- What nodes of pairs mean: a thread goes through all, and one through the pairs of each key, in the same order.
-use Rattle.std.specs.Prelude.{◌≡◌, ℕ, cond, Bool, List, [], ◌∷◌, ◌++◌, length, Option, Some, None, nat_eq}
-use Rattle.std.specs.Option.{option_map}
+use Rattle.std.specs.Prelude.{◌≡◌, ℕ, cond, Bool, false, List, [], ◌∷◌, ◌++◌, length, Option, Some, None, nat_eq}
+use Rattle.std.specs.Option.{option_map, is_none}
 use Rattle.std.specs.List.{filter}
 use Rattle.slab.specs.Slab.{Slab, get, slab_len}
 use Rattle.elem.specs.declared.elements.Elem.{Elem}
@@ -34,6 +34,19 @@ value_at nodes p = option_map (λ (n : PairNode). n.value) (get nodes p)
 
 abbrev pub core_at : Slab PairNode → ℕ → Option (Elem × Elem)
 core_at nodes p = option_map core (get nodes p)
+
+-- the key of the node at a place, where there is a place
+abbrev pub key_of : Slab PairNode → Option ℕ → Option Elem
+key_of nodes None = None
+key_of nodes (Some p) = key_at nodes p
+
+abbrev pub starts_key : Option PairNode → Bool
+starts_key None = false
+starts_key (Some n) = is_none n.of_key.previous
+
+-- whether the pair at a place is the first of its key
+abbrev pub is_head : Slab PairNode → ℕ → Bool
+is_head nodes p = starts_key (get nodes p)
 
 abbrev pub no_links : Links
 no_links = record { previous = None; next = None }

@@ -44,6 +44,11 @@ without_key k rows = filter (λ (r : Row). not (same k r.1.0)) rows
 abbrev pub count_of : Elem → List Row → ℕ
 count_of k rows = length (pairs_of_key k rows)
 
+-- the first pair of each key, in order
+abbrev pub first_pairs : List Row → List (Elem × Elem)
+first_pairs [] = []
+first_pairs (row ∷ rows) = row.1 ∷ filter (λ (pair : Elem × Elem). not (same row.1.0 pair.0)) (first_pairs rows)
+
 -- the id of a key's row number i
 abbrev pub id_of : Elem → ℕ → List Row → Option ℕ
 id_of k i rows = option_map (λ (r : Row). r.0) (slice_get (pairs_of_key k rows) i)

@@ -1,6 +1,7 @@
 ghost use Rattle.std.specs.Prelude.{◌≡◌, ◌+◌, ◌<◌, ◌≤◌, [], length, None, Some, nat_eq, IsTrue, IfOk, OnOk, OnErr};
-ghost use Rattle.elem.specs.Rows.{first_key, key_after};
-ghost use Rattle.mm_base.specs.PairRows.{HasDistinctIds, IsLive, pair_of, rows_beside, count_of, id_of, has_pair, pair_at, with_pair, IsPut, without_id, without_pair, without_key};
+ghost use Rattle.elem.specs.Elements.{same};
+ghost use Rattle.elem.specs.Rows.{first_key, last_key, key_after, key_before};
+ghost use Rattle.mm_base.specs.PairRows.{HasDistinctIds, IsLive, pair_of, rows_beside, first_pairs, count_of, id_of, has_pair, pair_at, with_pair, IsPut, without_id, without_pair, without_key};
 
 use crate::{FreeFlatPairs, PairId};
 use elem::{Elem, NoMemory, Steps};
@@ -106,6 +107,44 @@ impl FlatPairs {
     {
         steps.tick();
         self.free.after_in_key(p)
+    }
+
+    /// The first key, in the order of the first pair of each.
+    pub fn first_key<L: Ledger>(&self, steps: &mut Steps<L>) -> Option<Elem>
+        ensures key { result ≡ first_key (first_pairs self.now) }
+        ensures step { steps.new ≡ steps.old + 1 }
+    {
+        steps.tick();
+        self.free.first_key()
+    }
+
+    /// The last key, in the order of the first pair of each.
+    pub fn last_key<L: Ledger>(&self, steps: &mut Steps<L>) -> Option<Elem>
+        ensures key { result ≡ last_key (first_pairs self.now) }
+        ensures step { steps.new ≡ steps.old + 1 }
+    {
+        steps.tick();
+        self.free.last_key()
+    }
+
+    /// The key after another, in the order of the first pair of each.
+    pub fn after_key<L: Ledger>(&self, k: Elem, steps: &mut Steps<L>) -> Option<Elem>
+        requires { 0 < count_of k self.now }
+        ensures key { result ≡ key_after (same k) (first_pairs self.now) }
+        ensures step { steps.new ≡ steps.old + 1 }
+    {
+        steps.tick();
+        self.free.after_key(k)
+    }
+
+    /// The key before another, in the order of the first pair of each.
+    pub fn before_key<L: Ledger>(&self, k: Elem, steps: &mut Steps<L>) -> Option<Elem>
+        requires { 0 < count_of k self.now }
+        ensures key { result ≡ key_before (same k) (first_pairs self.now) }
+        ensures step { steps.new ≡ steps.old + 1 }
+    {
+        steps.tick();
+        self.free.before_key(k)
     }
 
     /// Puts a pair, last. The answer is that the size grew.

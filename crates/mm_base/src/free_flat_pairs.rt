@@ -1,10 +1,12 @@
 ghost use Rattle.std.specs.Prelude.{◌≡◌, ℕ, ◌<◌, ◌≤◌, List, [], length, Option, Some, None, IsTrue, IfOk, OnOk, OnErr};
 ghost use Rattle.std.specs.Map.{set_value};
 ghost use Rattle.elem.specs.declared.elements.Elem.{Elem as Key};
+ghost use Rattle.elem.specs.Elements.{same};
 ghost use Rattle.elem.specs.Rows.{first_key, last_key, key_after, key_before};
 ghost use Rattle.std.specs.Prelude.{nat_eq};
-ghost use Rattle.mm_base.specs.PairRows.{HasDistinctIds, IsLive, pair_of, pairs_of_key, rows_beside, count_of, id_of, has_pair, rows_of_pair, pair_at, with_pair, put_before, rows_from, IsPut, without_id, without_pair, without_key};
+ghost use Rattle.mm_base.specs.PairRows.{HasDistinctIds, IsLive, pair_of, pairs_of_key, rows_beside, first_pairs, count_of, id_of, has_pair, rows_of_pair, pair_at, with_pair, put_before, rows_from, IsPut, without_id, without_pair, without_key};
 
+use crate::heads::{key_at, next_head, previous_head};
 use crate::pair_id::{PairId, id_at, place_of, some_id};
 use crate::pair_nodes::{PairNode, PairsOfKey, find_value, link_pair, unlink_pair, write_value};
 use elem::{Elem, NoMemory};
@@ -113,6 +115,38 @@ impl FreeFlatPairs {
         ensures { result ≡ key_after (nat_eq p) (rows_beside (pair_of self.now p) self.now) }
     {
         some_id(self.nodes[place_of(p)].of_key.next)
+    }
+
+    /// The first key, in the order of the first pair of each.
+    pub fn first_key(&self) -> Option<Elem>
+        ensures { result ≡ first_key (first_pairs self.now) }
+    {
+        key_at(&self.nodes, next_head(&self.nodes, self.all.first))
+    }
+
+    /// The last key, in the order of the first pair of each.
+    pub fn last_key(&self) -> Option<Elem>
+        ensures { result ≡ last_key (first_pairs self.now) }
+    {
+        key_at(&self.nodes, previous_head(&self.nodes, self.all.last))
+    }
+
+    /// The key after another, in the order of the first pair of each.
+    pub fn after_key(&self, k: Elem) -> Option<Elem>
+        requires { 0 < count_of k self.now }
+        ensures { result ≡ key_after (same k) (first_pairs self.now) }
+    {
+        let place = self.place_at(&k, 0).unwrap();
+        key_at(&self.nodes, next_head(&self.nodes, self.nodes[place].all.next))
+    }
+
+    /// The key before another, in the order of the first pair of each.
+    pub fn before_key(&self, k: Elem) -> Option<Elem>
+        requires { 0 < count_of k self.now }
+        ensures { result ≡ key_before (same k) (first_pairs self.now) }
+    {
+        let place = self.place_at(&k, 0).unwrap();
+        key_at(&self.nodes, previous_head(&self.nodes, self.nodes[place].all.previous))
     }
 
     /// Puts a pair, last. The answer is that the size grew.

@@ -4,6 +4,7 @@
 #![tactic(auto)]
 
 mod flat_pairs;
+mod heads;
 mod free_flat_pairs;
 mod pair_id;
 mod pair_nodes;
