@@ -104,8 +104,7 @@ module _ {nodes : Slab PairNode} {all : Ends} (find : Elem → Option Group) {ro
         let c = some_of (core_at nodes q) (there_right (core_at nodes) us (q ∷ vs) (subst (There (core_at nodes)) d.2 all_there)).0 in
         let own : c.0.0 ≡ k = key_is k (key_at nodes q) c.0.0 (own_key (get nodes q) c.0 c.1) d.4 in
         let first : of_key (key_at nodes) c.0.0 us ≡ [] = ap (λ x. of_key (key_at nodes) x us) own ∙ d.3 in
-        let same_rows : id_rows (core_at nodes) (us ++ q ∷ vs) ≡ rows = ap (id_rows (core_at nodes)) (sym d.2) ∙ h.rows_equal in
-        (
+        let same_rows : id_rows (core_at nodes) (us ++ q ∷ vs) ≡ rows = ap (id_rows (core_at nodes)) (sym d.2) ∙ h.rows_equal in (
           us,
           vs,
           record {

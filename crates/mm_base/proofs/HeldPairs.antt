@@ -18,7 +18,7 @@ use Rattle.mm_base.specs.PairNodes.{key_links, key, key_at, value_at, core_at, w
 use Rattle.mm_base.specs.PairRows.{Row, pairs_of_key, rows_of_pair, put_before, rows_from}
 use Rattle.elem.specs.Elements.{same}
 use Rattle.mm_base.proofs.PairRowsLemmas.{first_live, live_filter, from_live}
-use Rattle.mm_base.proofs.PairsReads.{found_read, core_read, written, written_rows, pairs_are, kept_by_walk, len_read, first_read, count_read, count_below, nth_read, id_cut, node_read, cut_pairs, value_read, after_read, after_in_key_read, group_read, refound, roomier, roomier_rows, absent_read, IsSpot, spot, key_same, distinct_read}
+use Rattle.mm_base.proofs.PairsReads.{last_read, found_read, core_read, written, written_rows, pairs_are, kept_by_walk, len_read, first_read, count_read, count_below, nth_read, id_cut, node_read, cut_pairs, value_read, after_read, after_in_key_read, group_read, refound, roomier, roomier_rows, absent_read, IsSpot, spot, key_same, distinct_read}
 
 -- the fields hold these rows, at some places
 pub record HoldsPairs (nodes : Slab PairNode) (all : Ends) (find : Elem → Option Group) (rows : List Row) : Type 0 where
@@ -45,6 +45,9 @@ module _ {nodes : Slab PairNode} {all : Ends} (find : Elem → Option Group) {ro
 
     pub first_held : all.first ≡ first_key rows
     first_held = first_read nodes all find h.at_places h.are_pairs ∙ ap first_key h.rows_equal
+
+    pub last_held : all.last ≡ last_key rows
+    last_held = last_read nodes all find h.at_places h.are_pairs ∙ ap last_key h.rows_equal
 
     -- a key's group
     pub count_held : (k : Elem) → (group_or_none (find k)).count ≡ length (pairs_of_key k rows)

@@ -5,3 +5,5 @@ pub mod PairsReads
 pub mod KeyOrder
 pub mod HeldPairs
 pub mod HeldKeys
+pub mod Results
+pub mod ReplacingLemmas

@@ -19,7 +19,7 @@ use Rattle.mm_base.specs.PairRows.{Row, HasDistinctIds, pair_of, pairs_of_key, w
 own_id : (q : ℕ) → nat_eq q q ≡ true
 own_id q = (Decides-eqb q q).1 refl
 
-later : (q : ℕ) (row : Row) (o : Option (Elem × Elem)) → IsSome o → IsSome (cond (nat_eq q row.0) (Some row.1) o)
+pub later : (q : ℕ) (row : Row) (o : Option (Elem × Elem)) → IsSome o → IsSome (cond (nat_eq q row.0) (Some row.1) o)
 later q row o s = by_case (nat_eq q row.0)
   where
     by_case : (b : Bool) → IsSome (cond b (Some row.1) o)
@@ -174,6 +174,13 @@ no_id k rows e = by_case (pairs_of_key k rows) e
     by_case : (rs : List Row) → option_map (λ (r : Row). r.0) (slice_get rs 0) ≡ None → length rs ≡ 0
     by_case [] f = refl
     by_case (r ∷ rs) f = absurd (cc)
+
+pub first_id_of : (k : Elem) (rows : List Row) → id_of k 0 rows ≡ first_key (pairs_of_key k rows)
+first_id_of k rows = by_case (pairs_of_key k rows)
+  where
+    by_case : (rs : List Row) → option_map (λ (r : Row). r.0) (slice_get rs 0) ≡ first_key rs
+    by_case [] = refl
+    by_case (r ∷ rs) = refl
 
 pub none_left : (k : Elem) (rows : List Row) → count_of k rows ≡ 0 → without_key k rows ≡ rows
 none_left k [] e = refl

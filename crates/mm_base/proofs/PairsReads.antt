@@ -8,7 +8,7 @@ use Rattle.slab.specs.Slab.{Slab, get, slab_len}
 use Rattle.elem.specs.declared.elements.Elem.{Elem}
 use Rattle.elem.specs.Elements.{same}
 use Rattle.elem.specs.ElementLaws.{same_equiv}
-use Rattle.elem.specs.Rows.{first_key, key_after}
+use Rattle.elem.specs.Rows.{first_key, last_key, last_key_or, key_after}
 use Rattle.linked_base.specs.declared.links.Links.{Links}
 use Rattle.linked_base.specs.declared.links.Ends.{Ends}
 use Rattle.linked_base.specs.declared.group.Group.{Group}
@@ -59,6 +59,13 @@ module _ (nodes : Slab PairNode) (all : Ends) (find : Elem → Option Group) (ps
 
   pub first_read : all.first ≡ first_key (id_rows (core_at nodes) ps)
   first_read = h.thread.first ∙ sym (first_id (core_at nodes) ps there)
+
+  last_ids : (o : Option ℕ) (xs : List ℕ) → There (core_at nodes) xs → last_or o xs ≡ last_key_or o (id_rows (core_at nodes) xs)
+  last_ids o [] t = refl
+  last_ids o (x ∷ xs) t = let c = some_of (core_at nodes x) t.0 in last_ids (Some x) xs t.1 ∙ sym (ap (last_key_or o) (ids-cons (core_at nodes) x xs c.0 c.1))
+
+  pub last_read : all.last ≡ last_key (id_rows (core_at nodes) ps)
+  last_read = h.thread.last ∙ last_ids None ps there
 
   pub key_rows : (k : Elem) → pairs_of_key k (id_rows (core_at nodes) ps) ≡ id_rows (core_at nodes) (of_key (key_at nodes) k ps)
   key_rows k = filter_ids (core_at nodes) (λ p. has k (key_at nodes p)) (λ (c : Elem × Elem). same k c.0) (λ p c e. key_of_core k (get nodes p) c e) ps there

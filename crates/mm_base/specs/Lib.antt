@@ -1,2 +1,3 @@
 pub mod PairNodes
 pub mod PairRows
+pub mod Replacing

@@ -2,6 +2,7 @@ ghost use Rattle.std.specs.Prelude.{◌≡◌, ◌+◌, ◌<◌, ◌≤◌, [], 
 ghost use Rattle.elem.specs.Elements.{same};
 ghost use Rattle.elem.specs.Rows.{first_key, last_key, key_after, key_before};
 ghost use Rattle.mm_base.specs.PairRows.{HasDistinctIds, IsLive, pair_of, rows_beside, first_pairs, count_of, id_of, has_pair, pair_at, with_pair, IsPut, without_id, without_pair, without_key};
+ghost use Rattle.mm_base.specs.Replacing.{IsReplaced};
 
 use crate::{FreeFlatPairs, PairId};
 use elem::{Elem, NoMemory, Steps};
@@ -209,6 +210,22 @@ impl FlatPairs {
     {
         steps.tick();
         self.free.remove_key(k)
+    }
+
+    /// Gives a key these values. Its pairs keep their places and ids as far as there are values; then the rest of the
+    /// pairs goes, or the rest of the values comes last of all.
+    pub fn replace_values<L: Ledger>(
+        &mut self,
+        k: Elem,
+        vs: &[Elem],
+        steps: &mut Steps<L>,
+    ) -> Result<(), NoMemory>
+        ensures ok { OnOk result (IsReplaced k vs.now self.old self.new) }
+        ensures err { OnErr result (self.new ≡ self.old) }
+        ensures step { steps.new ≡ steps.old + 1 }
+    {
+        steps.tick();
+        self.free.replace_values(k, vs)
     }
 
     /// Removes a pair.

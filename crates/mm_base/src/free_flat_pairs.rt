@@ -6,6 +6,8 @@ ghost use Rattle.elem.specs.Rows.{first_key, last_key, key_after, key_before};
 ghost use Rattle.std.specs.Prelude.{nat_eq};
 ghost use Rattle.mm_base.specs.PairRows.{HasDistinctIds, IsLive, pair_of, pairs_of_key, rows_beside, first_pairs, count_of, id_of, has_pair, rows_of_pair, pair_at, with_pair, put_before, rows_from, IsPut, without_id, without_pair, without_key};
 
+mod replacing;
+
 use crate::heads::{key_at, next_head, previous_head};
 use crate::pair_id::{PairId, id_at, place_of, some_id};
 use crate::pair_nodes::{PairNode, PairsOfKey, find_value, link_pair, unlink_pair, write_value};
@@ -114,7 +116,7 @@ impl FreeFlatPairs {
         requires { IsLive self.now p }
         ensures { result ≡ key_after (nat_eq p) (rows_beside (pair_of self.now p) self.now) }
     {
-        some_id(self.nodes[place_of(p)].of_key.next)
+        some_id(self.next_in_key(place_of(p)))
     }
 
     /// The first key, in the order of the first pair of each.
@@ -137,7 +139,10 @@ impl FreeFlatPairs {
         ensures { result ≡ key_after (same k) (first_pairs self.now) }
     {
         let place = self.place_at(&k, 0).unwrap();
-        key_at(&self.nodes, next_head(&self.nodes, self.nodes[place].all.next))
+        key_at(
+            &self.nodes,
+            next_head(&self.nodes, self.nodes[place].all.next),
+        )
     }
 
     /// The key before another, in the order of the first pair of each.
@@ -146,7 +151,10 @@ impl FreeFlatPairs {
         ensures { result ≡ key_before (same k) (first_pairs self.now) }
     {
         let place = self.place_at(&k, 0).unwrap();
-        key_at(&self.nodes, previous_head(&self.nodes, self.nodes[place].all.previous))
+        key_at(
+            &self.nodes,
+            previous_head(&self.nodes, self.nodes[place].all.previous),
+        )
     }
 
     /// Puts a pair, last. The answer is that the size grew.
@@ -234,6 +242,23 @@ impl FreeFlatPairs {
     {
         let group = group_of(&self.groups, k);
         nth::<PairsOfKey, PairNode>(&self.nodes, &group.ends, i)
+    }
+
+    /// The place of the last pair.
+    fn last_place(&self) -> Option<usize>
+        ensures place { result ≡ last_key self.now }
+        ensures distinct { HasDistinctIds self.now }
+    {
+        self.all.last
+    }
+
+    /// The place of the pair after another of its key.
+    fn next_in_key(&self, place: usize) -> Option<usize>
+        requires { IsLive self.now place }
+        ensures place { result ≡ key_after (nat_eq place) (rows_beside (pair_of self.now place) self.now) }
+        ensures distinct { HasDistinctIds self.now }
+    {
+        self.nodes[place].of_key.next
     }
 
     /// The place of the first pair of a key and a value.

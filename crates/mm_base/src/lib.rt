@@ -4,8 +4,8 @@
 #![tactic(auto)]
 
 mod flat_pairs;
-mod heads;
 mod free_flat_pairs;
+mod heads;
 mod pair_id;
 mod pair_nodes;
 

@@ -1,31 +1,11 @@
-use Rattle.std.proofs.Common.{◌≡◌, ℕ, ◌+◌, ◌<◌, ◌≤◌, Option, Some, None, refl, sym, ap, ◌∙◌, subst, arith, slice_get}
-use Rattle.std.specs.Prelude.{IsSome, nat_eq}
-use Rattle.std.specs.Map.{lookup, remove_entry}
-use Rattle.std.specs.HashMap as hash
-use Rattle.elem.specs.Elements.{same}
-use Rattle.elem.specs.Rows.{first_key, key_after}
-use Rattle.linked_base.specs.declared.group.Group.{Group}
-use Rattle.linked_base.specs.Group.{of_key}
-use Rattle.mm_base.specs.PairNodes.{key_at, with_group}
-use Rattle.mm_base.specs.PairRows.{pair_of, rows_beside, Row, pairs_of_key, put_before}
-use Rattle.mm_base.proofs.HeldPairs.{held, still_holds, shows, len_held, distinct_held, first_held, count_held, count_fits, group_thread, nth_held, new_held, node_held, value_held, after_held, after_in_key_held, group_held, unlinked_held, linked_held, roomier_held}
+use Rattle.std.proofs.Common.{sym, ap, ◌∙◌, subst}
+use Rattle.std.specs.Prelude.{nat_eq}
+use Rattle.elem.specs.Rows.{key_after}
+use Rattle.mm_base.specs.PairRows.{IsLive, pair_of, rows_beside}
 use Rattle.mm_base.proofs.free_flat_pairs.FreeFlatPairs.after_in_key.Goals as goal
 
-pub index-requires : goal.index-requires
-index-requires c =
-    let find = hash.get same c.self.inside.groups in
-    let h = held find c.self.invariant c.self.view_is in
-    let q = c.place_of.result in
-    let s = subst (λ x. IsSome (lookup (nat_eq x) c.args.self.now)) (sym c.place_of.ensures) c.requires in
-    node_held find h q s
+pub next_in_key-requires : goal.next_in_key-requires
+next_in_key-requires c = subst (IsLive c.args.self.now) (sym c.place_of.ensures) c.requires
 
 pub returns : goal.returns
-returns c =
-    let find = hash.get same c.self.inside.groups in
-    let h = held find c.self.invariant c.self.view_is in
-    let q = c.place_of.result in
-    let s = subst (λ x. IsSome (lookup (nat_eq x) c.args.self.now)) (sym c.place_of.ensures) c.requires in
-    let n = c.index.result.now in
-    let pair = value_held find h q s n c.index.ensures in
-    c.some_id.ensures ∙ after_in_key_held find h q s n c.index.ensures n.key n.value pair ∙ ap (λ o. key_after (nat_eq q) (rows_beside o c.args.self.now)) (sym pair)
-    ∙ ap (λ x. key_after (nat_eq x) (rows_beside (pair_of c.args.self.now x) c.args.self.now)) c.place_of.ensures
+returns c = c.some_id.ensures ∙ c.next_in_key.ensures.place ∙ ap (λ x. key_after (nat_eq x) (rows_beside (pair_of c.args.self.now x) c.args.self.now)) c.place_of.ensures
