@@ -68,7 +68,7 @@ module _ (nodes : Slab PairNode) (all : Ends) (find : Elem → Option Group) whe
       by_node (Some n) g = ap is_none (whole n g) ∙ none_iff_empty (of_key (key_at nodes) k us)
 
 -- tests of lists
-filter_both : {X : Type 0} (f g h : X → Bool) → ((x : X) → h x ≡ (f x && g x)) → (xs : List X) → filter h xs ≡ filter f (filter g xs)
+pub filter_both : {X : Type 0} (f g h : X → Bool) → ((x : X) → h x ≡ (f x && g x)) → (xs : List X) → filter h xs ≡ filter f (filter g xs)
 filter_both f g h e [] = refl
 filter_both f g h e (x ∷ xs) = ap (λ b. cond b (x ∷ filter h xs) (filter h xs)) (e x) ∙ by_case (g x) (f x) refl (filter_both f g h e xs)
   where

@@ -7,3 +7,4 @@ pub mod HeldPairs
 pub mod HeldKeys
 pub mod Results
 pub mod ReplacingLemmas
+pub mod KeyedRowsLemmas

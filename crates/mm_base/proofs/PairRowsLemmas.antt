@@ -106,17 +106,17 @@ module _ (k : Elem) (rows : List Row) (i q : ℕ) (e : id_of k i rows ≡ Some q
   pub nth_is_live : IsSome (lookup (nat_eq q) rows)
   nth_is_live = subst (λ x. IsSome (lookup (nat_eq x) rows)) its_row.2 (live_filter (λ (r : Row). same k r.1.0) rows its_row.0.0 (nth_live (pairs_of_key k rows) i its_row.0 its_row.1))
 
-  its_cut : (us : List Row) × (vs : List Row) × (rows ≡ us ++ its_row.0 ∷ vs) × (same k its_row.0.1.0 ≡ true)
+  pub its_cut : (us : List Row) × (vs : List Row) × (rows ≡ us ++ its_row.0 ∷ vs) × (same k its_row.0.1.0 ≡ true)
   its_cut = nth_cut k rows i its_row.0 its_row.1
 
   its_key : its_row.0.1.0 ≡ k
   its_key = sym ((same-Decides k its_row.0.1.0).0 its_cut.3)
 
   module _ (d : HasDistinctIds rows) where
-    its_front : NonePasses (nat_eq q) its_cut.0
+    pub its_front : NonePasses (nat_eq q) its_cut.0
     its_front = subst (λ x. NonePasses (nat_eq x) its_cut.0) its_row.2 (none_before its_cut.0 its_row.0 its_cut.1 (subst HasDistinctIds its_cut.2 d))
 
-    passes : nat_eq q its_row.0.0 ≡ true
+    pub passes : nat_eq q its_row.0.0 ≡ true
     passes = ap (nat_eq q) its_row.2 ∙ own_id q
 
     pub nth_pair : pair_of rows q ≡ Some (k, its_row.0.1.1)

@@ -1,3 +1,5 @@
 pub mod PairNodes
 pub mod PairRows
 pub mod Replacing
+pub mod KeyedRows
+pub mod LinkedPairs

@@ -92,8 +92,7 @@ impl FreeFlatPairs {
         requires { IsLive self.now p }
         ensures { pair_of self.now p ≡ Some result }
     {
-        let node = &self.nodes[place_of(p)];
-        (node.key, node.value)
+        self.pair_at(place_of(p))
     }
 
     /// The first pair.
@@ -236,12 +235,22 @@ impl FreeFlatPairs {
     }
 
     /// The place of a key's pair number `i`.
-    fn place_at(&self, k: &Elem, i: usize) -> Option<usize>
+    pub(crate) fn place_at(&self, k: &Elem, i: usize) -> Option<usize>
         ensures place { result ≡ id_of k.now i self.now }
         ensures distinct { HasDistinctIds self.now }
     {
         let group = group_of(&self.groups, k);
         nth::<PairsOfKey, PairNode>(&self.nodes, &group.ends, i)
+    }
+
+    /// The key and the value of the pair at a place.
+    pub(crate) fn pair_at(&self, place: usize) -> (Elem, Elem)
+        requires { IsLive self.now place }
+        ensures pair { pair_of self.now place ≡ Some result }
+        ensures distinct { HasDistinctIds self.now }
+    {
+        let node = &self.nodes[place];
+        (node.key, node.value)
     }
 
     /// The place of the last pair.
@@ -262,7 +271,7 @@ impl FreeFlatPairs {
     }
 
     /// The place of the first pair of a key and a value.
-    fn find(&self, k: &Elem, v: &Elem) -> Option<usize>
+    pub(crate) fn find(&self, k: &Elem, v: &Elem) -> Option<usize>
         ensures { result ≡ first_key (rows_of_pair k.now v.now self.now) }
     {
         let group = group_of(&self.groups, k);
@@ -270,7 +279,7 @@ impl FreeFlatPairs {
     }
 
     /// Gives the pair at a place another value, and tells the one before.
-    fn write(&mut self, place: usize, v: &Elem) -> Elem
+    pub(crate) fn write(&mut self, place: usize, v: &Elem) -> Elem
         requires { IsLive self.old place }
         ensures value { (k w : Key) → pair_of self.old place ≡ Some (k, w) → result ≡ w }
         ensures rows { (k w : Key) → pair_of self.old place ≡ Some (k, w) → self.new ≡ with_pair (Some place) (k, v.now) self.old }
@@ -281,7 +290,7 @@ impl FreeFlatPairs {
     }
 
     /// Removes the pair at a place.
-    fn remove_at(&mut self, place: usize)
+    pub(crate) fn remove_at(&mut self, place: usize)
         requires { IsLive self.old place }
         ensures { self.new ≡ without_id (Some place) self.old }
     {
@@ -292,7 +301,7 @@ impl FreeFlatPairs {
     }
 
     /// Puts a pair before that at the place `next`, or last, and in its key before that at `next_in_key`, or last there.
-    fn link(
+    pub(crate) fn link(
         &mut self,
         k: &Elem,
         v: &Elem,

@@ -6,9 +6,12 @@
 mod flat_pairs;
 mod free_flat_pairs;
 mod heads;
+mod linked_keys;
+mod linked_pairs;
 mod pair_id;
 mod pair_nodes;
 
 pub use flat_pairs::FlatPairs;
 pub use free_flat_pairs::FreeFlatPairs;
+pub use linked_pairs::LinkedPairs;
 pub use pair_id::PairId;

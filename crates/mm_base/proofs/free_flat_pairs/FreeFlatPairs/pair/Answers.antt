@@ -1,28 +1,9 @@
-use Rattle.std.proofs.Common.{◌≡◌, ℕ, ◌+◌, ◌<◌, ◌≤◌, Option, Some, None, refl, sym, ap, ◌∙◌, subst, arith, slice_get}
-use Rattle.std.specs.Prelude.{IsSome, nat_eq}
-use Rattle.std.specs.Map.{lookup, remove_entry}
-use Rattle.std.specs.HashMap as hash
-use Rattle.elem.specs.Elements.{same}
-use Rattle.elem.specs.Rows.{first_key, key_after}
-use Rattle.linked_base.specs.declared.group.Group.{Group}
-use Rattle.linked_base.specs.Group.{of_key}
-use Rattle.mm_base.specs.PairNodes.{key_at, with_group}
-use Rattle.mm_base.specs.PairRows.{Row, pairs_of_key, put_before}
-use Rattle.mm_base.proofs.HeldPairs.{held, still_holds, shows, len_held, distinct_held, first_held, count_held, count_fits, group_thread, nth_held, new_held, node_held, value_held, after_held, after_in_key_held, group_held, unlinked_held, linked_held, roomier_held}
+use Rattle.std.proofs.Common.{sym, ap, ◌∙◌, subst}
+use Rattle.mm_base.specs.PairRows.{IsLive, pair_of}
 use Rattle.mm_base.proofs.free_flat_pairs.FreeFlatPairs.pair.Goals as goal
 
-pub index-node-requires : goal.index-node-requires
-index-node-requires c =
-    let find = hash.get same c.self.inside.groups in
-    let h = held find c.self.invariant c.self.view_is in
-    let q = c.place_of.result in
-    let s = subst (λ x. IsSome (lookup (nat_eq x) c.args.self.now)) (sym c.place_of.ensures) c.requires in
-    node_held find h q s
+pub pair_at-requires : goal.pair_at-requires
+pair_at-requires c = subst (IsLive c.args.self.now) (sym c.place_of.ensures) c.requires
 
 pub returns : goal.returns
-returns c =
-    let find = hash.get same c.self.inside.groups in
-    let h = held find c.self.invariant c.self.view_is in
-    let q = c.place_of.result in
-    let s = subst (λ x. IsSome (lookup (nat_eq x) c.args.self.now)) (sym c.place_of.ensures) c.requires in
-    ap (λ x. lookup (nat_eq x) c.args.self.now) (sym c.place_of.ensures) ∙ value_held find h q s c.index-node.result.now c.index-node.ensures
+returns c = ap (pair_of c.args.self.now) (sym c.place_of.ensures) ∙ c.pair_at.ensures.pair

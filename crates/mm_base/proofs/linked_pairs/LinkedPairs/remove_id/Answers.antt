@@ -1,0 +1,23 @@
+use Rattle.std.proofs.Common.{◌≡◌, ◌∷◌, [], refl, sym, ap, ◌∙◌, subst}
+use Rattle.std.specs.Prelude.{nat_eq}
+use Rattle.std.specs.Map.{keys_of}
+use Rattle.mm_base.specs.LinkedPairs.{AreLinked}
+use Rattle.mm_base.specs.KeyedRows.{KeyedRows, keys_with_rows}
+use Rattle.mm_base.proofs.KeyedRowsLemmas.{IsLess, less_keys, less_linked, less_key, less_id, less_pair, live_index}
+use Rattle.mm_base.proofs.linked_pairs.LinkedPairs.remove_id.Goals as goal
+
+pub invariant_of-self : goal.invariant_of-self
+invariant_of-self g c =
+    let m = c.self.inside in
+    let k = c.pair_at-key.result.0 in
+    let i = live_index k c.pair_at-key.result.1 m.pairs c.place_of-place.result c.pair_at-key.ensures.pair in
+    let less = subst (IsLess k m.pairs) (sym c.remove_at.ensures) (less_id k m.pairs i.0 c.place_of-place.result i.1 c.pair_at-key.ensures.distinct) in
+    less_linked m.pairs c.remove_at.new.self k m.keys c.settle_key.new.keys less c.self.invariant c.settle_key.ensures.rows c.settle_key.ensures.distinct
+
+pub returns-clause-keys : goal.returns-clause-keys
+returns-clause-keys g c =
+    let m = c.self.inside in
+    let k = c.pair_at-key.result.0 in
+    let i = live_index k c.pair_at-key.result.1 m.pairs c.place_of-place.result c.pair_at-key.ensures.pair in
+    let less = subst (IsLess k m.pairs) (sym c.remove_at.ensures) (less_id k m.pairs i.0 c.place_of-place.result i.1 c.pair_at-key.ensures.distinct) in
+    less_keys m.pairs c.remove_at.new.self k m.keys c.settle_key.new.keys less c.self.invariant c.settle_key.ensures.rows ∙ ap (λ (x : KeyedRows). keys_with_rows c.remove_at.new.self x.keys) c.self.view_is
