@@ -1,6 +1,5 @@
 -- The order of the keys, by the first pair of each, in the fields of linked pairs.
-use Rattle.std.proofs.Common.{◌≡◌, ℕ, zero, suc, Bool, true, false, cond, List, [], ◌∷◌, ◌++◌, Option, Some, None, refl, sym, ap, ◌∙◌, subst, slice_get, append_assoc}
-use Rattle.std.specs.Prelude.{IsSome}
+use Rattle.std.proofs.Common.{◌≡◌, ℕ, Bool, true, false, cond, List, [], ◌∷◌, ◌++◌, Option, Some, None, refl, sym, ap, ◌∙◌, subst, slice_get, append_assoc}
 use Rattle.std.specs.Option.{option_map}
 use Rattle.std.specs.List.{filter}
 use Rattle.slab.specs.Slab.{Slab, get}
@@ -18,8 +17,8 @@ use Rattle.linked_base.proofs.ThreadLemmas.{thread_cut_at, links_read}
 use Rattle.linked_base.proofs.PlacesLemmas.{There, some_of, there_right}
 use Rattle.linked_base.proofs.IdLemmas.{there_filter}
 use Rattle.mm_base.specs.declared.pair_nodes.PairNode.{PairNode}
-use Rattle.mm_base.specs.PairNodes.{all_links, key, key_at, core_at, key_of, is_head, ArePairs}
-use Rattle.mm_base.specs.PairRows.{Row, pairs_of_key, id_of, first_pairs}
+use Rattle.mm_base.specs.PairNodes.{all_links, key_at, core_at, key_of, is_head, ArePairs}
+use Rattle.mm_base.specs.PairRows.{Row, id_of, first_pairs}
 use Rattle.mm_base.proofs.Walks.{WalkedOn, on_split, on_cut, WalkedBack, back_split, back_cut}
 use Rattle.mm_base.proofs.PairsReads.{there, own_key}
 use Rattle.mm_base.proofs.KeyOrder.{pairs_in, heads_are, first_of, last_of, key_after_first, key_before_first}

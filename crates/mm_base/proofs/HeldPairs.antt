@@ -1,12 +1,12 @@
 -- What the fields of linked pairs hold, and what each step makes of it.
-use Rattle.std.proofs.Common.{◌≡◌, ℕ, suc, ◌+◌, ◌≤◌, List, [], ◌∷◌, ◌++◌, length, Option, Some, None, refl, sym, ap, ◌∙◌, subst, slice_get}
+use Rattle.std.proofs.Common.{◌≡◌, ℕ, suc, ◌≤◌, List, ◌∷◌, ◌++◌, length, Option, Some, None, sym, ap, ◌∙◌, subst, slice_get}
 use Rattle.std.specs.Prelude.{IsSome, nat_eq}
 use Rattle.std.specs.Option.{option_map}
 use Rattle.std.specs.List.{filter, IsDistinct}
 use Rattle.std.specs.Map.{lookup, remove_entry, set_value, keys_of}
 use Rattle.slab.specs.Slab.{Slab, get, slab_len}
 use Rattle.elem.specs.declared.elements.Elem.{Elem}
-use Rattle.elem.specs.Rows.{first_key, last_key, key_after, key_before}
+use Rattle.elem.specs.Rows.{first_key, last_key, key_after}
 use Rattle.linked_base.specs.declared.links.Ends.{Ends}
 use Rattle.linked_base.specs.declared.group.Group.{Group}
 use Rattle.linked_base.specs.Thread.{head_or, IsThread, links_at, Rewrites}
@@ -18,7 +18,7 @@ use Rattle.mm_base.specs.PairNodes.{key_links, key, key_at, value_at, core_at, w
 use Rattle.mm_base.specs.PairRows.{Row, pairs_of_key, rows_of_pair, put_before, rows_from}
 use Rattle.elem.specs.Elements.{same}
 use Rattle.mm_base.proofs.PairRowsLemmas.{first_live, live_filter, from_live}
-use Rattle.mm_base.proofs.PairsReads.{last_read, found_read, core_read, written, written_rows, pairs_are, kept_by_walk, len_read, first_read, count_read, count_below, nth_read, id_cut, node_read, cut_pairs, value_read, after_read, after_in_key_read, group_read, refound, roomier, roomier_rows, absent_read, IsSpot, spot, key_same, distinct_read}
+use Rattle.mm_base.proofs.PairsReads.{last_read, found_read, core_read, written, written_rows, pairs_are, kept_by_walk, len_read, first_read, count_read, count_below, nth_read, id_cut, node_read, cut_pairs, value_read, after_read, after_in_key_read, group_read, refound, roomier, roomier_rows, absent_read, spot, key_same, distinct_read}
 
 -- the fields hold these rows, at some places
 pub record HoldsPairs (nodes : Slab PairNode) (all : Ends) (find : Elem → Option Group) (rows : List Row) : Type 0 where

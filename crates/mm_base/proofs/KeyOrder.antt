@@ -1,6 +1,6 @@
 -- The pairs that are the first of their keys, read along the places.
-use Rattle.std.proofs.Common.{◌≡◌, ◌≢◌, ℕ, zero, suc, ◌+◌, ◌≤◌, Bool, true, false, cond, not, ◌&&◌, List, [], ◌∷◌, ◌++◌, length, map, Option, Some, None, refl, sym, ap, ◌∙◌, subst, arith, append-nil, append_assoc}
-use Rattle.std.specs.Prelude.{IsSome, is_some, nat_eq}
+use Rattle.std.proofs.Common.{◌≡◌, ℕ, Bool, true, false, cond, not, ◌&&◌, List, [], ◌∷◌, ◌++◌, map, Option, Some, None, refl, sym, ap, ◌∙◌, subst, append_assoc}
+use Rattle.std.specs.Prelude.{is_some}
 use Rattle.std.specs.Option.{option_map, is_none}
 use Rattle.std.specs.List.{filter}
 use Rattle.std.proofs.lemmas.List.Elements.{filter-append}
@@ -8,21 +8,21 @@ use Rattle.std.proofs.lemmas.Map.{NonePasses}
 use Rattle.slab.specs.Slab.{Slab, get}
 use Rattle.elem.specs.declared.elements.Elem.{Elem}
 use Rattle.elem.specs.Elements.{same}
-use Rattle.elem.specs.ElementLaws.{same-Decides, same_equiv}
+use Rattle.elem.specs.ElementLaws.{same_equiv}
 use Rattle.elem.specs.Rows.{first_key, last_key, last_key_or, key_after, key_before}
 use Rattle.elem.proofs.RowsLemmas.{key_after_at, key_before_at}
 use Rattle.linked_base.specs.declared.links.Links.{Links}
 use Rattle.linked_base.specs.declared.links.Ends.{Ends}
 use Rattle.linked_base.specs.declared.group.Group.{Group}
-use Rattle.linked_base.specs.Thread.{head_or, last_or, Avoids, links_at}
+use Rattle.linked_base.specs.Thread.{head_or, last_or, links_at}
 use Rattle.linked_base.specs.Group.{group_or_none, has, of_key}
 use Rattle.linked_base.specs.Places.{id_rows}
-use Rattle.linked_base.proofs.ThreadLemmas.{thread_cut_at, links_read, avoids_cut, apart_without}
-use Rattle.linked_base.proofs.GroupLemmas.{own_cut, group_cut}
+use Rattle.linked_base.proofs.ThreadLemmas.{thread_cut_at, links_read}
+use Rattle.linked_base.proofs.GroupLemmas.{group_cut}
 use Rattle.linked_base.proofs.PlacesLemmas.{There, some_of, there_left, there_right}
 use Rattle.linked_base.proofs.IdLemmas.{ids-cons, ids-append, there_filter}
 use Rattle.mm_base.specs.declared.pair_nodes.PairNode.{PairNode}
-use Rattle.mm_base.specs.PairNodes.{key_links, key, core, key_at, core_at, key_of, starts_key, is_head, ArePairs}
+use Rattle.mm_base.specs.PairNodes.{key_links, key, key_at, core_at, key_of, starts_key, is_head, ArePairs}
 use Rattle.mm_base.specs.PairRows.{Row, first_pairs}
 use Rattle.mm_base.proofs.PairsReads.{there, own_key}
 

@@ -3,7 +3,7 @@ use Rattle.std.proofs.Common.{◌≡◌, ℕ, zero, suc, ◌+◌, ◌<◌, ◌�
 use Rattle.std.specs.Prelude.{IsSome, nat_eq}
 use Rattle.std.specs.Option.{option_map}
 use Rattle.std.specs.List.{filter, IsDistinct, AllByRecursion}
-use Rattle.std.specs.Map.{lookup, remove_entry, set_value, keys_of}
+use Rattle.std.specs.Map.{lookup, remove_entry, keys_of}
 use Rattle.std.proofs.lemmas.Map.{NonePasses}
 use Rattle.std.proofs.lemmas.Bool.Decides.{Decides-eqb}
 use Rattle.std.proofs.lemmas.List.Elements.{filter-append}

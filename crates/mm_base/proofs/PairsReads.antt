@@ -1,31 +1,30 @@
 -- What the links and groups of pairs say of the rows.
-use Rattle.std.proofs.Common.{◌≡◌, ◌≢◌, ℕ, zero, suc, ◌+◌, ◌≤◌, Bool, true, false, cond, List, [], ◌∷◌, ◌++◌, length, Option, Some, None, refl, sym, ap, ◌∙◌, subst, arith, slice_get, append-nil}
+use Rattle.std.proofs.Common.{◌≡◌, ◌≢◌, ℕ, suc, ◌≤◌, Bool, true, false, cond, List, [], ◌∷◌, ◌++◌, length, Option, Some, None, refl, sym, ap, ◌∙◌, subst, arith, slice_get, append-nil}
 use Rattle.std.specs.Prelude.{IsSome, nat_eq}
 use Rattle.std.specs.Option.{option_map}
 use Rattle.std.specs.List.{filter, IsDistinct, AllByRecursion}
-use Rattle.std.specs.Map.{lookup, remove_entry, set_value, keys_of}
+use Rattle.std.specs.Map.{lookup, set_value, keys_of}
 use Rattle.slab.specs.Slab.{Slab, get, slab_len}
 use Rattle.elem.specs.declared.elements.Elem.{Elem}
 use Rattle.elem.specs.Elements.{same}
-use Rattle.elem.specs.ElementLaws.{same_equiv}
 use Rattle.elem.specs.Rows.{first_key, last_key, last_key_or, key_after}
 use Rattle.linked_base.specs.declared.links.Links.{Links}
 use Rattle.linked_base.specs.declared.links.Ends.{Ends}
 use Rattle.linked_base.specs.declared.group.Group.{Group}
-use Rattle.linked_base.specs.Thread.{Rewrites, head_or, last_or, Avoids, Apart, IsThread, links_at}
-use Rattle.linked_base.specs.Group.{group_or_none, IsGroup, has, of_key, AreGrouped}
+use Rattle.linked_base.specs.Thread.{Rewrites, head_or, last_or, Avoids, Apart, links_at}
+use Rattle.linked_base.specs.Group.{group_or_none, has, of_key}
 use Rattle.linked_base.specs.Places.{id_rows}
 use Rattle.std.proofs.Common.{inl, inr}
 use Rattle.std.proofs.lemmas.Bool.{cases_eq}
 use Rattle.elem.proofs.RowsLemmas.{set_value_at}
 use Rattle.linked_base.proofs.ThreadLemmas.{thread_walked, thread_cut_at, links_read, apart_without, avoids_cut}
-use Rattle.linked_base.proofs.GroupLemmas.{thread_same, same_everywhere, own_cut, group_cut, group_there, length-filter_le, avoids_filter, grouped_same}
+use Rattle.linked_base.proofs.GroupLemmas.{thread_same, same_everywhere, own_cut, group_cut, group_there, length-filter_le, grouped_same}
 use Rattle.linked_base.proofs.PlacesLemmas.{There, some_of, there_left, there_right}
 use Rattle.std.proofs.lemmas.Map.{NonePasses, lookup-none}
 use Rattle.std.proofs.lemmas.Bool.Decides.{Decides-eqb}
-use Rattle.linked_base.proofs.IdLemmas.{ids-cons, ids_at, ids_beside, fresh, IsIdCut, cut_id, value_cut, removed_cut, after_cut, rows_cut, first_id, length-ids, filter_ids, none_avoids, there_filter, thread_there, node_of, ids_nth}
+use Rattle.linked_base.proofs.IdLemmas.{ids-cons, ids_at, ids_beside, fresh, IsIdCut, cut_id, value_cut, after_cut, rows_cut, first_id, length-ids, filter_ids, none_avoids, there_filter, thread_there, node_of, ids_nth}
 use Rattle.mm_base.specs.declared.pair_nodes.PairNode.{PairNode}
-use Rattle.mm_base.specs.PairNodes.{all_links, key_links, key, core, key_at, value_at, core_at, with_group, ArePairs, places, pairs_now}
+use Rattle.mm_base.specs.PairNodes.{all_links, key_links, key, core, key_at, value_at, core_at, ArePairs, places, pairs_now}
 use Rattle.mm_base.specs.PairRows.{Row, pairs_of_key, rows_of_pair, put_before, rows_from}
 
 key_of_core : (k : Elem) (x : Option PairNode) (c : Elem × Elem) → option_map core x ≡ Some c → has k (option_map key x) ≡ same k c.0

@@ -1,12 +1,11 @@
 -- Values written into a key's rows in turn, and rows removed from a place on.
-use Rattle.std.proofs.Common.{◌≡◌, ℕ, zero, suc, ◌+◌, ◌<◌, ◌≤◌, Bool, true, false, cond, not, List, [], ◌∷◌, ◌++◌, length, map, take, drop, Option, Some, None, refl, sym, ap, ◌∙◌, subst, arith, slice_get, length-append, append-nil, append_assoc, add-one, get_or}
+use Rattle.std.proofs.Common.{◌≡◌, ℕ, zero, suc, ◌+◌, ◌<◌, ◌≤◌, Bool, true, false, cond, not, List, [], ◌∷◌, ◌++◌, length, map, take, drop, Option, Some, None, refl, sym, ap, ◌∙◌, subst, arith, length-append, append-nil, append_assoc, add-one, get_or}
 use Rattle.std.specs.Prelude.{IsSome, nat_eq}
-use Rattle.std.specs.List.{filter}
 use Rattle.std.specs.Map.{lookup, remove_entry, set_value}
 use Rattle.std.proofs.lemmas.Map.{NonePasses}
 use Rattle.std.proofs.lemmas.Bool.Decides.{Decides-eqb}
 use Rattle.std.proofs.lemmas.List.Elements.{filter-append}
-use Rattle.std.proofs.Math.Seq.{take-append_seam, drop-cons, take-suc}
+use Rattle.std.proofs.Math.Seq.{drop-cons, take-suc}
 use Rattle.elem.specs.declared.elements.Elem.{Elem}
 use Rattle.elem.specs.Elements.{same}
 use Rattle.elem.specs.ElementLaws.{same-Decides, same_equiv}

@@ -1,7 +1,6 @@
 -- What nodes of pairs mean: a thread goes through all, and one through the pairs of each key, in the same order.
-use Rattle.std.specs.Prelude.{◌≡◌, ℕ, cond, Bool, false, List, [], ◌∷◌, ◌++◌, length, Option, Some, None, nat_eq}
+use Rattle.std.specs.Prelude.{◌≡◌, ℕ, cond, Bool, false, List, length, Option, Some, None}
 use Rattle.std.specs.Option.{option_map, is_none}
-use Rattle.std.specs.List.{filter}
 use Rattle.slab.specs.Slab.{Slab, get, slab_len}
 use Rattle.elem.specs.declared.elements.Elem.{Elem}
 use Rattle.elem.specs.Elements.{same}
@@ -9,7 +8,7 @@ use Rattle.linked_base.specs.declared.links.Links.{Links}
 use Rattle.linked_base.specs.declared.links.Ends.{Ends}
 use Rattle.linked_base.specs.declared.group.Group.{Group}
 use Rattle.linked_base.specs.Thread.{walk, IsThread, links_at}
-use Rattle.linked_base.specs.Group.{some_used, of_key, AreGrouped}
+use Rattle.linked_base.specs.Group.{some_used, AreGrouped}
 use Rattle.linked_base.specs.Places.{id_rows}
 use Rattle.mm_base.specs.declared.pair_nodes.PairNode.{PairNode}
 

@@ -1,6 +1,5 @@
-//! Multimaps as `java.util` has none and Guava does: pairs of a key and a value, in an order that the type gives, each with
-//! an id that it keeps. The pairs are nodes of a slab, and a thread through all nodes and one through those of each key
-//! decide their order.
+//! Guava's multimaps as lists of pairs: each pair has a key, a value and an id that it keeps. The pairs are nodes of a
+//! slab, and a thread through all nodes and one through those of each key decide their order.
 #![tactic(auto)]
 
 mod flat_pairs;
@@ -10,6 +9,8 @@ mod linked_keys;
 mod linked_pairs;
 mod pair_id;
 mod pair_nodes;
+#[cfg(test)]
+mod tests;
 
 pub use flat_pairs::FlatPairs;
 pub use free_flat_pairs::FreeFlatPairs;

@@ -1,5 +1,4 @@
-use Rattle.std.proofs.Common.{◌≡◌, ◌≤◌, ◌++◌, length, sym, ap, ◌∙◌, arith, length-append}
-use Rattle.std.specs.Option.{is_none}
+use Rattle.std.proofs.Common.{◌≤◌, length, sym, ap, ◌∙◌, arith, length-append}
 use Rattle.mm_base.specs.PairNodes.{is_head, starts_key}
 use Rattle.mm_base.proofs.Walks.{on_start, on_next, on_here, on_none, on_end}
 use Rattle.mm_base.proofs.KeyOrder.{none_is}

@@ -1,8 +1,7 @@
-use Rattle.std.proofs.Common.{◌≡◌, Bool, true, false, not, cond, [], ◌∷◌, ◌++◌, sym, ap, ◌∙◌, refl}
+use Rattle.std.proofs.Common.{not, cond, [], ◌∷◌, ◌++◌, sym, ap, ◌∙◌}
 use Rattle.std.specs.Prelude.{is_some}
 use Rattle.std.specs.Map.{keys_of}
 use Rattle.elem.specs.Keyed.{without}
-use Rattle.mm_base.specs.KeyedRows.{contains, with_key}
 use Rattle.mm_base.proofs.KeyedRowsLemmas.{contains_keys, keys_last, taken_back, not_not, none_of}
 use Rattle.mm_base.proofs.linked_keys.add_key.Goals as goal
 use Rattle.mm_base.proofs.linked_keys.add_key.Goals.{then-added+in_ok-insert, else-added}

@@ -1,8 +1,8 @@
-use Rattle.std.proofs.Common.{◌≡◌, ℕ, Bool, false, true, None, Some, refl, sym, ap, ◌∙◌, arith, length, ◌≤◌}
+use Rattle.std.proofs.Common.{None, refl, sym, ap, ◌∙◌, arith, length, ◌≤◌}
 use Rattle.std.specs.Option.{option_map}
 use Rattle.linked_base.specs.Thread.{head_or}
 use Rattle.linked_base.specs.Group.{has}
-use Rattle.linked_base.proofs.NthLemmas.{head_nth, none_later, nth_next, nth_there}
+use Rattle.linked_base.proofs.NthLemmas.{head_nth, nth_next, nth_there}
 use Rattle.mm_base.specs.declared.pair_nodes.PairNode.{PairNode}
 use Rattle.mm_base.specs.PairNodes.{key_links, value_at}
 use Rattle.mm_base.proofs.PairRowsLemmas.{find_next, find_here, find_end}

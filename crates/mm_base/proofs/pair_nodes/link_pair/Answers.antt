@@ -1,4 +1,4 @@
-use Rattle.std.proofs.Common.{◌≡◌, ◌+◌, ◌++◌, ◌∷◌, Some, ◌∙◌, subst}
+use Rattle.std.proofs.Common.{◌≡◌, ◌+◌, Some, ◌∙◌, subst}
 use Rattle.slab.specs.Slab.{Updates, slab_len}
 use Rattle.linked_base.specs.Group.{of_key}
 use Rattle.linked_base.proofs.GroupLemmas.{key_beside}

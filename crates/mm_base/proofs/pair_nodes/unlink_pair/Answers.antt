@@ -1,4 +1,4 @@
-use Rattle.std.proofs.Common.{◌≡◌, ◌+◌, ◌++◌, ◌∷◌, Some, ◌∙◌, subst}
+use Rattle.std.proofs.Common.{◌≡◌, ◌+◌, ◌∙◌}
 use Rattle.slab.specs.Slab.{slab_len}
 use Rattle.linked_base.specs.Group.{of_key}
 use Rattle.mm_base.specs.PairNodes.{key_at}

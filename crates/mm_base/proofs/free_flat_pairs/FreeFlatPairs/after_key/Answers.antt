@@ -1,4 +1,4 @@
-use Rattle.std.proofs.Common.{◌≡◌, ◌++◌, ◌∷◌, [], refl, sym, ap, ◌∙◌, subst, append-nil, append_assoc}
+use Rattle.std.proofs.Common.{◌++◌, ◌∷◌, [], sym, ap, ◌∙◌, subst, append_assoc}
 use Rattle.std.specs.Prelude.{IsSome}
 use Rattle.std.specs.HashMap as hash
 use Rattle.elem.specs.Elements.{same}
@@ -6,7 +6,7 @@ use Rattle.linked_base.specs.declared.links.Links.{Links}
 use Rattle.mm_base.specs.PairNodes.{key_of, ArePairs}
 use Rattle.mm_base.proofs.PairRowsLemmas.{id_some, nth_is_live}
 use Rattle.mm_base.proofs.HeldPairs.{held, node_held}
-use Rattle.mm_base.proofs.HeldKeys.{first_key_held, last_key_held, first_place, links_cut}
+use Rattle.mm_base.proofs.HeldKeys.{first_place, links_cut}
 use Rattle.mm_base.proofs.free_flat_pairs.FreeFlatPairs.after_key.Goals as goal
 
 pub unwrap-place-requires : goal.unwrap-place-requires

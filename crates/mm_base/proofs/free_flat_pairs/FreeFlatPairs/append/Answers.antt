@@ -1,7 +1,5 @@
-use Rattle.std.proofs.Common.{◌≡◌, ◌≤◌, [], ◌∷◌, ◌++◌, length, take, map, ◌+◌, None, refl, sym, ap, ◌∙◌, subst, append-nil, arith}
+use Rattle.std.proofs.Common.{◌≡◌, [], length, take, map, ◌+◌, refl, sym, ap, ◌∙◌, append-nil, arith}
 use Rattle.std.proofs.lemmas.List.{length-take}
-use Rattle.mm_base.specs.PairRows.{Row, IsPut}
-use Rattle.mm_base.specs.Replacing.{IsAppended}
 use Rattle.mm_base.proofs.Results.{on_err_of, on_ok_of}
 use Rattle.mm_base.proofs.ReplacingLemmas.{appended_one, take_value, take_all, length_added}
 use Rattle.mm_base.proofs.free_flat_pairs.FreeFlatPairs.append.Goals as goal

@@ -1,12 +1,9 @@
-use Rattle.std.proofs.Common.{◌≡◌, ◌++◌, ◌∷◌, [], refl, sym, ap, ◌∙◌, subst, append-nil, append_assoc}
-use Rattle.std.specs.Prelude.{IsSome}
+use Rattle.std.proofs.Common.{[], ap, ◌∙◌}
 use Rattle.std.specs.HashMap as hash
 use Rattle.elem.specs.Elements.{same}
-use Rattle.linked_base.specs.declared.links.Links.{Links}
-use Rattle.mm_base.specs.PairNodes.{key_of, ArePairs}
-use Rattle.mm_base.proofs.PairRowsLemmas.{id_some, nth_is_live}
-use Rattle.mm_base.proofs.HeldPairs.{held, node_held}
-use Rattle.mm_base.proofs.HeldKeys.{first_key_held, last_key_held, first_place, links_cut}
+use Rattle.mm_base.specs.PairNodes.{key_of}
+use Rattle.mm_base.proofs.HeldPairs.{held}
+use Rattle.mm_base.proofs.HeldKeys.{first_key_held}
 use Rattle.mm_base.proofs.free_flat_pairs.FreeFlatPairs.first_key.Goals as goal
 
 pub returns : goal.returns

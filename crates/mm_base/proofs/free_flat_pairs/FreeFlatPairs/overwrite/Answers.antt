@@ -1,8 +1,4 @@
-use Rattle.std.proofs.Common.{◌≡◌, ◌+◌, [], ◌∷◌, drop, refl, sym, ap, ◌∙◌, subst, Some, None}
-use Rattle.std.specs.Prelude.{nat_eq}
-use Rattle.std.specs.Map.{set_value}
-use Rattle.elem.specs.Rows.{first_key}
-use Rattle.mm_base.specs.PairRows.{pairs_of_key}
+use Rattle.std.proofs.Common.{◌+◌, drop, sym, ◌∙◌, subst}
 use Rattle.mm_base.proofs.PairRowsLemmas.{first_id_of}
 use Rattle.mm_base.proofs.ReplacingLemmas.{IsWriting, writing_starts, wrote, its_pair, its_split, values_ended, rows_ended, drop_value, drop_all, next_is_live}
 use Rattle.mm_base.proofs.free_flat_pairs.FreeFlatPairs.overwrite.Goals as goal

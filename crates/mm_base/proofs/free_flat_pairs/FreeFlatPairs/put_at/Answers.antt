@@ -1,6 +1,4 @@
-use Rattle.std.proofs.Common.{◌≡◌, ℕ, Option, Some, None, refl, sym, ap, ◌∙◌, subst}
-use Rattle.elem.specs.Rows.{first_key}
-use Rattle.mm_base.specs.PairRows.{pairs_of_key, rows_from, id_of}
+use Rattle.std.proofs.Common.{sym, ◌∙◌}
 use Rattle.mm_base.proofs.PairRowsLemmas.{nth_is_live, nth_spot}
 use Rattle.mm_base.proofs.free_flat_pairs.FreeFlatPairs.put_at.Goals as goal
 

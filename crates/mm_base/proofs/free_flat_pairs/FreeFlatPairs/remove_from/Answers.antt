@@ -1,6 +1,4 @@
-use Rattle.std.proofs.Common.{◌≡◌, ◌+◌, ◌++◌, length, refl, sym, ap, ◌∙◌, subst, arith}
-use Rattle.std.specs.Prelude.{nat_eq}
-use Rattle.std.specs.Map.{remove_entry}
+use Rattle.std.proofs.Common.{◌≡◌, ◌++◌, length, refl, sym, ap, subst, arith}
 use Rattle.mm_base.specs.PairRows.{without_key}
 use Rattle.mm_base.proofs.ReplacingLemmas.{IsRemoving, took, one_less, all_removed, emptied, next_is_live}
 use Rattle.mm_base.proofs.free_flat_pairs.FreeFlatPairs.remove_from.Goals as goal

@@ -1,8 +1,8 @@
-use Rattle.std.proofs.Common.{◌≡◌, ◌+◌, ◌++◌, List, [], ◌∷◌, length, refl, sym, ap, ◌∙◌, subst, arith, append-nil, Some, None}
+use Rattle.std.proofs.Common.{◌≡◌, ◌++◌, length, sym, ap, ◌∙◌, subst, arith, append-nil, None}
 use Rattle.std.specs.Map.{remove_entry}
 use Rattle.std.specs.Prelude.{nat_eq}
 use Rattle.elem.specs.Rows.{last_key}
-use Rattle.mm_base.specs.PairRows.{Row, HasDistinctIds}
+use Rattle.mm_base.specs.PairRows.{HasDistinctIds}
 use Rattle.mm_base.proofs.ReplacingLemmas.{fewer_added, some_last, last_is_live, no_left}
 use Rattle.mm_base.proofs.free_flat_pairs.FreeFlatPairs.remove_last.Goals as goal
 use Rattle.mm_base.proofs.free_flat_pairs.FreeFlatPairs.remove_last.Goals.{in-Some, in_default}

@@ -1,4 +1,4 @@
-use Rattle.std.proofs.Common.{◌≡◌, [], ◌∷◌, ◌++◌, ◌-◌, ◌≤◌, length, map, drop, arith, refl, sym, ap, ◌∙◌, subst, append-nil}
+use Rattle.std.proofs.Common.{[], ◌-◌, ◌≤◌, length, map, drop, arith, sym, ap, ◌∙◌, append-nil}
 use Rattle.std.proofs.lemmas.List.{length-drop}
 use Rattle.elem.specs.declared.elements.Elem.{Elem}
 use Rattle.mm_base.specs.PairRows.{count_of}

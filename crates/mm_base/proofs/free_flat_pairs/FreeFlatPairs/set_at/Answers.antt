@@ -1,6 +1,6 @@
-use Rattle.std.proofs.Common.{◌≡◌, ℕ, Option, Some, None, refl, sym, ap, ◌∙◌, subst}
+use Rattle.std.proofs.Common.{Some, sym, ap, ◌∙◌, subst}
 use Rattle.std.specs.Prelude.{IsSome}
-use Rattle.mm_base.specs.PairRows.{id_of, pair_at, with_pair}
+use Rattle.mm_base.specs.PairRows.{pair_at, with_pair}
 use Rattle.mm_base.proofs.PairRowsLemmas.{its_row, nth_is_live, nth_pair, id_some}
 use Rattle.mm_base.proofs.free_flat_pairs.FreeFlatPairs.set_at.Goals as goal
 

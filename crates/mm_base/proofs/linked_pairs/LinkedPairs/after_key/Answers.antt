@@ -1,7 +1,6 @@
 use Rattle.std.proofs.Common.{◌<◌, sym, ap, ◌∙◌, subst}
-use Rattle.std.specs.Prelude.{IsSome}
 use Rattle.elem.specs.Elements.{same}
-use Rattle.elem.specs.Rows.{first_key, last_key, key_after, key_before}
+use Rattle.elem.specs.Rows.{key_after}
 use Rattle.mm_base.specs.PairRows.{count_of}
 use Rattle.mm_base.specs.KeyedRows.{KeyedRows, as_rows}
 use Rattle.mm_base.proofs.KeyedRowsLemmas.{entries_are, key_present}

@@ -1,4 +1,4 @@
-use Rattle.std.proofs.Common.{[], refl, sym, subst, ap}
+use Rattle.std.proofs.Common.{[], sym, subst}
 use Rattle.mm_base.specs.LinkedPairs.{AreLinked}
 use Rattle.mm_base.proofs.KeyedRowsLemmas.{nothing_linked}
 use Rattle.mm_base.proofs.linked_pairs.LinkedPairs.clear.Goals as goal

@@ -1,4 +1,4 @@
-use Rattle.std.proofs.Common.{◌≡◌, ◌∷◌, ◌++◌, [], refl, sym, ap, ◌∙◌, subst}
+use Rattle.std.proofs.Common.{sym, ◌∙◌, subst}
 use Rattle.std.specs.Map.{keys_of}
 use Rattle.mm_base.specs.LinkedPairs.{AreLinked}
 use Rattle.mm_base.proofs.Results.{on_ok_of}

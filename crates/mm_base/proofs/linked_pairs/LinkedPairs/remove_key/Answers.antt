@@ -1,9 +1,6 @@
-use Rattle.std.proofs.Common.{◌≡◌, ◌∷◌, [], refl, sym, ap, ◌∙◌, subst}
-use Rattle.std.specs.Prelude.{nat_eq}
-use Rattle.std.specs.Map.{keys_of}
-use Rattle.mm_base.specs.LinkedPairs.{AreLinked}
+use Rattle.std.proofs.Common.{sym, ap, ◌∙◌, subst}
 use Rattle.mm_base.specs.KeyedRows.{KeyedRows, keys_with_rows}
-use Rattle.mm_base.proofs.KeyedRowsLemmas.{IsLess, less_keys, less_linked, less_key, less_id, less_pair, live_index}
+use Rattle.mm_base.proofs.KeyedRowsLemmas.{IsLess, less_keys, less_linked, less_key}
 use Rattle.mm_base.proofs.linked_pairs.LinkedPairs.remove_key.Goals as goal
 
 pub invariant_of-self : goal.invariant_of-self
