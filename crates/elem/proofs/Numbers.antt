@@ -49,7 +49,7 @@ no_number text h = passed _ _ _ (λ t.
     let parts : (fits_64_bits (signed_digits_value 10 text) ≡ true) × (pointwise nat_eq (signed_decimal (signed_digits_value 10 text)) text ≡ true) = both _ _ t in
     h (signed_digits_value 10 text) (fits_from _ parts.0) (sym (same_text _ _ parts.1)))
 
-one_number : (text : List ℕ) (n : ℤ) → n ≡ signed_digits_value 10 text → FitsSigned w64 n → text ≡ signed_decimal n → number_of text ≡ Some n
+pub one_number : (text : List ℕ) (n : ℤ) → n ≡ signed_digits_value 10 text → FitsSigned w64 n → text ≡ signed_decimal n → number_of text ≡ Some n
 unfolding number_of
 one_number text n v f e =
     let fits : fits_64_bits (signed_digits_value 10 text) ≡ true = subst (λ (m : ℤ). fits_64_bits m ≡ true) v (fits_to n f) in
@@ -103,3 +103,18 @@ prints_other text read shown r n e p q d h m f t =
     let one : n ≡ m = cc in
     let s : pointwise nat_eq shown text ≡ true = text_same shown text (d ∙ ap signed_decimal (back ∙ one) ∙ sym t) in
     cc
+
+number_some : (m n : ℤ) → Some m ≡ Some n → m ≡ n
+number_some m n h = cc
+
+spelled_by_test : (b : Bool) (m n : ℤ) → cond b (Some m) None ≡ Some n → (b ≡ true) × (m ≡ n)
+spelled_by_test true m n h = (refl, number_some m n h)
+spelled_by_test false m n h = absurd cc
+
+-- a text that is read as a number is its spelling
+pub one_spelled : (text : List ℕ) (n : ℤ) → number_of text ≡ Some n → FitsSigned w64 n × (text ≡ signed_decimal n)
+unfolding number_of
+one_spelled text n h =
+    let t = spelled_by_test (fits_64_bits (signed_digits_value 10 text) && pointwise nat_eq (signed_decimal (signed_digits_value 10 text)) text) _ n h in
+    let parts = both (fits_64_bits (signed_digits_value 10 text)) _ t.0 in
+    (subst (λ (m : ℤ). FitsSigned w64 m) t.1 (fits_from _ parts.0), sym (same_text _ _ parts.1) ∙ ap signed_decimal t.1)

@@ -16,3 +16,6 @@ pub mod Outside
 pub mod Memory
 pub mod MemoryFiles
 pub mod MemoryInside
+pub mod Tokens
+pub mod Lexing
+pub mod SpanTexts
