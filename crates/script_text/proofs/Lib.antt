@@ -1,0 +1,10 @@
+pub mod StageLaws
+pub mod PartLaws
+pub mod LoopLaws
+pub mod ReaderLaws
+pub mod ArgLaws
+pub mod SoundLaws
+pub mod WholeLaws
+pub mod FormLaws
+pub mod FrontLaws
+pub mod LineLaws

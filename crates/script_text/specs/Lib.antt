@@ -1,0 +1,6 @@
+pub mod Grammar
+pub mod Names
+pub mod Stages
+pub mod Trees
+pub mod Calls
+pub mod Lines
