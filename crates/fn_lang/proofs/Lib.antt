@@ -1,0 +1,5 @@
+pub mod TreeLaws
+pub mod LeafLaws
+pub mod StackLaws
+pub mod SortLaws
+pub mod FlatLaws
