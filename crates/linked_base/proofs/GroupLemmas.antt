@@ -1,19 +1,18 @@
 -- Groups of places by key: a place put in, and one taken out. No slab and no map is named here.
-use Rattle.std.proofs.Common.{◌≡◌, ◌≢◌, inl, inr, ℕ, zero, suc, ◌≤◌, ◌<◌, ◌+◌, Bool, true, false, cond, List, [], ◌∷◌, ◌++◌, length, Option, Some, None, refl, sym, ap, ◌∙◌, subst, arith, length-append, append-nil}
+use Rattle.std.proofs.Common.{◌≡◌, ◌≢◌, ℕ, zero, suc, ◌≤◌, ◌<◌, Bool, true, false, cond, List, [], ◌∷◌, ◌++◌, length, Option, Some, None, refl, sym, ap, ◌∙◌, subst, arith, length-append}
 use Rattle.std.specs.Prelude.{IsSome}
 use Rattle.std.specs.Option.{option_map}
-use Rattle.std.specs.List.{filter, filter_map}
-use Rattle.std.proofs.lemmas.List.Elements.{filter-append, filter_map-append}
-use Rattle.slab.specs.Slab.{Slab, get, Updates}
+use Rattle.std.specs.List.{filter}
+use Rattle.std.proofs.lemmas.List.Elements.{filter-append}
 use Rattle.elem.specs.declared.elements.Elem.{Elem}
 use Rattle.elem.specs.Elements.{same}
 use Rattle.elem.specs.ElementLaws.{same-Decides, same_equiv}
 use Rattle.linked_base.specs.declared.links.Links.{Links}
 use Rattle.linked_base.specs.declared.links.Ends.{Ends}
 use Rattle.linked_base.specs.declared.group.Group.{Group}
-use Rattle.linked_base.specs.Thread.{head_or, last_or, Avoids, IsRun, IsThread, links_at, KeepsRest}
+use Rattle.linked_base.specs.Thread.{Avoids, IsRun, IsThread, KeepsRest}
 use Rattle.linked_base.specs.Group.{no_group, group_or_none, used_at, some_used, IsGroup, has, of_key, AreGrouped}
-use Rattle.linked_base.proofs.ThreadLemmas.{avoids_join, avoids_cut, run_kept}
+use Rattle.linked_base.proofs.ThreadLemmas.{avoids_join, avoids_cut}
 
 -- threads kept
 module _ (at new : ℕ → Option Links) where

@@ -1,5 +1,5 @@
 -- What the fields of a linked map hold, and what each step makes of it.
-use Rattle.std.proofs.Common.{◌≡◌, ◌≢◌, ◌⊎◌, inl, inr, ℕ, ◌+◌, Bool, true, false, cond, List, [], ◌∷◌, ◌++◌, length, Option, Some, None, refl, sym, ap, ◌∙◌, subst}
+use Rattle.std.proofs.Common.{◌≡◌, ◌⊎◌, inl, inr, ℕ, ◌+◌, Bool, true, false, cond, List, [], ◌∷◌, ◌++◌, Option, Some, None, refl, sym, ap, ◌∙◌, subst}
 use Rattle.std.specs.Prelude.{IsSome}
 use Rattle.std.specs.List.{IsDistinct}
 use Rattle.std.specs.Map.{lookup, keys_of, remove_entry, set_value}
@@ -15,11 +15,11 @@ use Rattle.linked_base.specs.declared.links.Ends.{Ends}
 use Rattle.linked_base.specs.declared.row_nodes.Node.{Node}
 use Rattle.linked_base.specs.Thread.{head_or, Avoids, IsThread, links_at, KeepsRest, Rewrites}
 use Rattle.linked_base.specs.Places.{rows_of}
-use Rattle.linked_base.specs.LinkedMap.{links, row, key_of, row_at, places, rows_now, IsRowsOf}
+use Rattle.linked_base.specs.LinkedMap.{links, key_of, row_at, places, rows_now, IsRowsOf}
 use Rattle.linked_base.proofs.ThreadLemmas.{apart_without}
 use Rattle.linked_base.proofs.LinkedMapLemmas.{kept_by_walk, rows_are, place_absent, place_there, row_absent, row_found, value_found, node_found, next_there, previous_there, after_found, before_found}
 use Rattle.linked_base.proofs.KeyedLemmas.{IsCut}
-use Rattle.linked_base.proofs.LinkedMapSteps.{Linked, Rowed, the_node, roomier, roomier_rows, unlinked_new, pushed, pushed_rows, thread_at_cut, dropped, dropped_rows, mid_absent, rekeyed, rekeyed_rows, replaced, replaced_rows, remove_none}
+use Rattle.linked_base.proofs.LinkedMapSteps.{Linked, Rowed, the_node, roomier, roomier_rows, unlinked_new, pushed, pushed_rows, thread_at_cut, dropped, dropped_rows, mid_absent, rekeyed, rekeyed_rows, replaced, replaced_rows}
 
 -- the fields hold these rows, at some places
 pub record HoldsRows {V S : Type 0} (nodes : Slab (Node V)) (ends : Ends) (index : HashMap Elem ℕ S) (rows : List (Elem × V)) : Type 0 where

@@ -1,9 +1,9 @@
 -- Rows with their places as ids, at a cut of the list of places.
-use Rattle.std.proofs.Common.{◌≡◌, ◌≢◌, ℕ, zero, suc, ◌≤◌, ◌<◌, Bool, true, false, cond, List, [], ◌∷◌, ◌++◌, length, Option, Some, None, refl, sym, ap, ◌∙◌, subst, arith, length-append}
+use Rattle.std.proofs.Common.{◌≡◌, ◌≢◌, ℕ, zero, suc, Bool, true, false, cond, List, [], ◌∷◌, ◌++◌, length, Option, Some, None, refl, sym, ap, ◌∙◌, subst}
 use Rattle.std.specs.Prelude.{IsSome, nat_eq, slice_get}
 use Rattle.std.specs.Option.{option_map}
-use Rattle.std.specs.List.{filter, filter_map, cons_option}
-use Rattle.std.specs.Map.{lookup, remove_entry, set_value}
+use Rattle.std.specs.List.{filter}
+use Rattle.std.specs.Map.{lookup, remove_entry}
 use Rattle.std.proofs.lemmas.Map.{NonePasses}
 use Rattle.std.proofs.lemmas.Bool.Decides.{Decides-eqb}
 use Rattle.slab.specs.Slab.{Slab, get}
@@ -11,10 +11,9 @@ use Rattle.elem.specs.Rows.{first_key, key_after}
 use Rattle.elem.proofs.RowsLemmas.{lookup_at, remove_at, key_after_at}
 use Rattle.linked_base.specs.declared.links.Links.{Links}
 use Rattle.linked_base.specs.declared.links.Ends.{Ends}
-use Rattle.linked_base.specs.Thread.{head_or, last_or, Avoids, IsRun, IsThread, links_at}
+use Rattle.linked_base.specs.Thread.{head_or, Avoids, IsRun, IsThread, links_at}
 use Rattle.linked_base.specs.Places.{id_rows}
-use Rattle.linked_base.proofs.ThreadLemmas.{avoids_cut, apart_without}
-use Rattle.linked_base.proofs.PlacesLemmas.{There, some_of, there_right, rows-append, rows-cons, rows_at, rows_beside, rows_kept, length-rows}
+use Rattle.linked_base.proofs.PlacesLemmas.{There, some_of, rows-append, rows-cons, rows_at, rows_beside}
 
 module _ {C : Type 0} (core : ℕ → Option C) where
   abbrev pub id_at : ℕ → Option (ℕ × C)

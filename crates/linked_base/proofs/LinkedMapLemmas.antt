@@ -1,28 +1,25 @@
 -- What the fields of a linked map say of its rows.
-use Rattle.std.proofs.Common.{◌≡◌, ◌≢◌, ◌⊎◌, inl, inr, ℕ, zero, suc, ◌≤◌, ◌+◌, Bool, true, false, cond, List, [], ◌∷◌, ◌++◌, length, map, Option, Some, None, refl, sym, ap, ◌∙◌, subst, arith, length-append, true≢false}
+use Rattle.std.proofs.Common.{◌≡◌, ℕ, List, [], ◌∷◌, Option, Some, None, refl, sym, ap, ◌∙◌, subst, arith}
 use Rattle.std.specs.Prelude.{IsSome}
 use Rattle.std.specs.Option.{option_map}
-use Rattle.std.specs.List.{filter_map, cons_option, IsDistinct, AllByRecursion}
-use Rattle.std.specs.Map.{lookup, keys_of, remove_entry}
+use Rattle.std.specs.List.{cons_option}
+use Rattle.std.specs.Map.{lookup}
 use Rattle.std.specs.HashMap.{HashMap, hash_map_len}
 use Rattle.std.specs.HashMap as hash
-use Rattle.std.proofs.lemmas.Map.{NonePasses, lookup-none, none_passes_from_lookup, lookup-remove_entry}
-use Rattle.std.proofs.lemmas.List.Elements.{filter_map-append}
-use Rattle.slab.specs.Slab.{Slab, get, Updates}
+use Rattle.slab.specs.Slab.{Slab, get}
 use Rattle.elem.specs.declared.elements.Elem.{Elem}
 use Rattle.elem.specs.Elements.{same}
-use Rattle.elem.specs.ElementLaws.{same-Decides, same_equiv}
 use Rattle.elem.specs.Rows.{first_key, last_key_or, key_after, key_before}
-use Rattle.elem.proofs.RowsLemmas.{lookup_at, remove_at, key_after_at, key_before_at}
+use Rattle.elem.proofs.RowsLemmas.{lookup_at, key_after_at, key_before_at}
 use Rattle.linked_base.specs.declared.links.Links.{Links}
 use Rattle.linked_base.specs.declared.links.Ends.{Ends}
 use Rattle.linked_base.specs.declared.row_nodes.Node.{Node}
-use Rattle.linked_base.specs.Thread.{head_or, last_or, Avoids, IsRun, walk, IsThread, links_at, KeepsRest}
-use Rattle.linked_base.specs.Places.{rows_of, keyed, IsIndexed}
+use Rattle.linked_base.specs.Thread.{head_or, last_or, IsRun, IsThread, links_at, KeepsRest}
+use Rattle.linked_base.specs.Places.{rows_of}
 use Rattle.linked_base.specs.LinkedMap.{links, row, key_of, row_at, places, rows_now, IsRowsOf}
 use Rattle.linked_base.proofs.ThreadLemmas.{thread_walked, thread_cut_at, links_read}
-use Rattle.linked_base.proofs.PlacesLemmas.{some_of, There, there_left, there_right, there_join, there_both, rows-append, rows-cons, length-rows, rows_at, rows_kept, rows_beside}
-use Rattle.linked_base.proofs.KeyedLemmas.{keyed_at, keyed-append, keyed-cons, keyed_keys, none_keyed, none_rows, absent_row, absent_place, IsCut, cut_found, cut_rows, none_left, none_right, lookup_with, distinct_without, distinct_with, indexed_without, indexed_with}
+use Rattle.linked_base.proofs.PlacesLemmas.{some_of, There, there_left, there_right}
+use Rattle.linked_base.proofs.KeyedLemmas.{absent_row, absent_place, IsCut, cut_found, cut_rows}
 
 -- the fields of a linked map
 module _ {V : Type 0} where

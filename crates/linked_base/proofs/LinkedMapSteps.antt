@@ -1,8 +1,7 @@
 -- A row put in, taken out, or written in its place.
-use Rattle.std.proofs.Common.{◌≡◌, ◌≢◌, ◌⊎◌, inl, inr, ℕ, zero, suc, ◌≤◌, ◌+◌, ◌-◌, Bool, true, false, cond, List, [], ◌∷◌, ◌++◌, length, Option, Some, None, refl, sym, ap, ◌∙◌, subst, arith, length-append, append-nil}
-use Rattle.std.specs.Prelude.{IsSome}
+use Rattle.std.proofs.Common.{◌≡◌, ◌≢◌, inl, inr, ℕ, ◌+◌, ◌-◌, Bool, true, false, cond, List, [], ◌∷◌, ◌++◌, length, Option, Some, None, refl, sym, ap, ◌∙◌, subst, arith, length-append, append-nil}
 use Rattle.std.specs.Option.{option_map}
-use Rattle.std.specs.List.{IsDistinct, insert}
+use Rattle.std.specs.List.{IsDistinct}
 use Rattle.std.specs.Map.{lookup, keys_of, remove_entry, set_value}
 use Rattle.std.specs.HashMap.{HashMap, hash_map_len}
 use Rattle.std.specs.HashMap as hash
@@ -11,18 +10,18 @@ use Rattle.std.proofs.lemmas.Map.{NonePasses, lookup-none, none_passes_from_look
 use Rattle.slab.specs.Slab.{Slab, get, Updates}
 use Rattle.elem.specs.declared.elements.Elem.{Elem}
 use Rattle.elem.specs.Elements.{same}
-use Rattle.elem.specs.ElementLaws.{same-Decides, same_equiv}
+use Rattle.elem.specs.ElementLaws.{same-Decides}
 use Rattle.elem.specs.Rows.{set_row}
-use Rattle.elem.proofs.RowsLemmas.{lookup_at, remove_at, set_value_at, set_row_at}
+use Rattle.elem.proofs.RowsLemmas.{remove_at, set_value_at, set_row_at}
 use Rattle.linked_base.specs.declared.links.Links.{Links}
 use Rattle.linked_base.specs.declared.links.Ends.{Ends}
 use Rattle.linked_base.specs.declared.row_nodes.Node.{Node}
-use Rattle.linked_base.specs.Thread.{head_or, last_or, Avoids, IsRun, IsThread, links_at, KeepsRest, Rewrites}
+use Rattle.linked_base.specs.Thread.{Avoids, IsThread, links_at, KeepsRest, Rewrites}
 use Rattle.linked_base.specs.Places.{rows_of, keyed, IsIndexed}
 use Rattle.linked_base.specs.LinkedMap.{links, row, row_at, IsRowsOf}
 use Rattle.linked_base.proofs.ThreadLemmas.{run_kept, apart_without, avoids_cut}
-use Rattle.linked_base.proofs.PlacesLemmas.{There, there_left, there_right, there_both, rows-append, rows_at, rows_beside, some_of}
-use Rattle.linked_base.proofs.LinkedMapLemmas.{thread_there, all_there, row_kept}
+use Rattle.linked_base.proofs.PlacesLemmas.{There, there_both, rows-append, rows_at, rows_beside, some_of}
+use Rattle.linked_base.proofs.LinkedMapLemmas.{all_there, row_kept}
 use Rattle.linked_base.proofs.KeyedLemmas.{indexed_with, indexed_without, IsCut, cut_rows, distinct_without, absent_place}
 
 abbrev pub Linked : {V : Type 0} → Node V → Links → Node V

@@ -1,10 +1,10 @@
 -- Places of a thread by their number.
-use Rattle.std.proofs.Common.{◌≡◌, ℕ, zero, suc, ◌≤◌, ◌<◌, ◌+◌, List, [], ◌∷◌, length, Option, Some, None, refl, sym, ap, ◌∙◌, subst, arith, add-one, slice_get}
+use Rattle.std.proofs.Common.{◌≡◌, ℕ, zero, suc, ◌≤◌, ◌+◌, List, [], ◌∷◌, Option, Some, None, refl, sym, ap, ◌∙◌, arith, add-one, slice_get}
 use Rattle.std.specs.Option.{option_map}
 use Rattle.slab.specs.Slab.{Slab, get}
 use Rattle.linked_base.specs.declared.links.Links.{Links}
 use Rattle.linked_base.specs.declared.links.Ends.{Ends}
-use Rattle.linked_base.specs.Thread.{head_or, last_or, IsRun, IsThread, links_at}
+use Rattle.linked_base.specs.Thread.{head_or, IsRun, IsThread, links_at}
 
 pub head_nth : (ps : List ℕ) → head_or None ps ≡ slice_get ps 0
 head_nth [] = refl

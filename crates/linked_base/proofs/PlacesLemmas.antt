@@ -1,24 +1,10 @@
 -- The rows at places: of lists joined and cut, and where some places' rows change.
-use Rattle.std.proofs.Common.{◌≡◌, ◌≢◌, ◌⊎◌, inl, inr, ℕ, zero, suc, ◌≤◌, ◌+◌, Bool, true, false, cond, List, [], ◌∷◌, ◌++◌, length, map, Option, Some, None, refl, sym, ap, ◌∙◌, subst, arith, length-append, true≢false}
+use Rattle.std.proofs.Common.{◌≡◌, ◌≢◌, ℕ, suc, List, [], ◌∷◌, ◌++◌, length, Option, Some, None, refl, sym, ap, ◌∙◌}
 use Rattle.std.specs.Prelude.{IsSome}
-use Rattle.std.specs.Option.{option_map}
-use Rattle.std.specs.List.{filter_map, cons_option, IsDistinct, AllByRecursion}
-use Rattle.std.specs.Map.{lookup, keys_of, remove_entry}
-use Rattle.std.specs.HashMap.{HashMap, hash_map_len}
-use Rattle.std.specs.HashMap as hash
-use Rattle.std.proofs.lemmas.Map.{NonePasses, lookup-none, none_passes_from_lookup, lookup-remove_entry}
+use Rattle.std.specs.List.{cons_option}
 use Rattle.std.proofs.lemmas.List.Elements.{filter_map-append}
-use Rattle.slab.specs.Slab.{Slab, get, Updates}
-use Rattle.elem.specs.declared.elements.Elem.{Elem}
-use Rattle.elem.specs.Elements.{same}
-use Rattle.elem.specs.ElementLaws.{same-Decides, same_equiv}
-use Rattle.elem.specs.Rows.{first_key, last_key_or, key_after, key_before}
-use Rattle.elem.proofs.RowsLemmas.{lookup_at, remove_at, key_after_at, key_before_at}
-use Rattle.linked_base.specs.declared.links.Links.{Links}
-use Rattle.linked_base.specs.declared.links.Ends.{Ends}
-use Rattle.linked_base.specs.declared.row_nodes.Node.{Node}
-use Rattle.linked_base.specs.Thread.{head_or, last_or, Avoids, IsRun, walk, IsThread, links_at, KeepsRest}
-use Rattle.linked_base.specs.Places.{rows_of, keyed, IsIndexed}
+use Rattle.linked_base.specs.Thread.{Avoids}
+use Rattle.linked_base.specs.Places.{rows_of}
 
 pub some_of : {R : Type 0} (x : Option R) → IsSome x → (r : R) × (x ≡ Some r)
 some_of None s = absurd (cc)

@@ -1,6 +1,6 @@
-use Rattle.std.proofs.Common.{◌≡◌, ℕ, List, ◌∷◌, ◌++◌, None, ap}
+use Rattle.std.proofs.Common.{None, ap}
 use Rattle.linked_base.specs.declared.links.Links.{Links}
-use Rattle.linked_base.specs.Thread.{head_or, last_or, IsThread, links_at}
+use Rattle.linked_base.specs.Thread.{head_or, last_or, links_at}
 use Rattle.linked_base.proofs.ThreadLemmas.{thread_cut_at, links_read, unlinked, spliced_others, keeps_rewritten, keeps_both}
 use Rattle.linked_base.proofs.thread.unlink.Goals as goal
 

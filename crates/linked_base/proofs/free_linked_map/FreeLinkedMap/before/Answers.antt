@@ -1,4 +1,4 @@
-use Rattle.std.proofs.Common.{sym, ◌∙◌}
+use Rattle.std.proofs.Common.{◌∙◌}
 use Rattle.linked_base.proofs.HeldRows.{held, place_held, node_held, previous_held, key_before_held}
 use Rattle.linked_base.proofs.free_linked_map.FreeLinkedMap.before.Goals as goal
 

@@ -1,4 +1,4 @@
-use Rattle.std.proofs.Common.{sym, ap, ◌∙◌, subst, refl, Some}
+use Rattle.std.proofs.Common.{subst, refl, Some}
 use Rattle.slab.specs.Slab.{Updates}
 use Rattle.linked_base.proofs.HeldRows.{held, still_holds, shows, roomier_held, pushed_held}
 use Rattle.linked_base.proofs.free_linked_map.FreeLinkedMap.insert.Goals as goal

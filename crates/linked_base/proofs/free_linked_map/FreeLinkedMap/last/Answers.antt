@@ -1,9 +1,7 @@
-use Rattle.std.proofs.Common.{sym, ap, ◌∙◌, subst, refl, IsSome, None}
-use Rattle.std.specs.Map.{lookup}
+use Rattle.std.proofs.Common.{sym, ap, ◌∙◌, None}
 use Rattle.std.specs.HashMap.{hash_map_len}
-use Rattle.elem.specs.Elements.{same}
-use Rattle.elem.specs.Rows.{key_after, key_before, last_key}
-use Rattle.linked_base.specs.LinkedMap.{places, row_at, key_of}
+use Rattle.elem.specs.Rows.{last_key}
+use Rattle.linked_base.specs.LinkedMap.{places, key_of}
 use Rattle.linked_base.proofs.LinkedMapLemmas.{all_there, last_there, last_key_of}
 use Rattle.linked_base.proofs.free_linked_map.FreeLinkedMap.last.Goals as goal
 
