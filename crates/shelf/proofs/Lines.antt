@@ -8,8 +8,8 @@ use Rattle.session.specs.State.{State, empty}
 use Rattle.session.specs.Machine.{step, step_of}
 use Rattle.session.specs.Lines.{Tree, read, long, form_of, trimmed}
 use Rattle.session.specs.Machine.{written}
-use Rattle.shelf.specs.Transcript.{lines_of, replies, transcript}
-use Rattle.shelf.specs.Feed.{kept, last_reply, replies_on}
+use Rattle.shelf.specs.Transcript.{lines_of, replies, transcript, before_lines, whole_lines}
+use Rattle.shelf.specs.Feed.{kept, last_reply, no_reply, replies_with, replies_on, whole_replies_on}
 
 -- no newline
 abbrev pub IsOneLine : List ℕ → Type 0
@@ -60,12 +60,12 @@ reply_kept : (state : State) (line : List ℕ) → written (step state (kept lin
 reply_kept state line = ap (λ l. written (step_of state l).reply) (read_kept line)
 
 at_end : (state : State) (line : List ℕ) → IsOneLine line → replies state (lines_of line) ≡ replies_on state (kept line) []
-unfolding replies replies_on
+unfolding replies replies_with
 at_end state [] h = refl
 at_end state (b ∷ bs) h = ap (replies state) (last_line b bs h) ∙ append-nil _ ∙ sym (reply_kept state (b ∷ bs))
 
 pub on_from : (state : State) (line bs : List ℕ) → IsOneLine line → replies state (lines_of (line ++ bs)) ≡ replies_on state (kept line) bs
-unfolding replies replies_on
+unfolding replies replies_with
 on_from state line [] h = ap (λ l. replies state (lines_of l)) (append-nil line) ∙ at_end state line h
 on_from state line (c ∷ cs) h = by (c == 10) refl (on_from (step state line).after [] cs tt) (λ e. on_from state (line ++ c ∷ []) cs (one_more line c h e))
   where
@@ -84,3 +84,56 @@ on_from state line (c ∷ cs) h = by (c == 10) refl (on_from (step state line).a
 
 pub transcript_is : (bytes : List ℕ) → transcript bytes ≡ replies_on empty [] bytes
 transcript_is bytes = on_from empty [] bytes tt
+
+-- ---- whole lines
+
+-- a script without a newline has no whole line
+no_line : (bs : List ℕ) → whole_lines bs ≡ [] → (state : State) (line : List ℕ) → whole_replies_on state line bs ≡ []
+unfolding replies_with
+no_line [] e state line = refl
+no_line (b ∷ bs) e state line = by (λ none. no_line bs none state (kept (line ++ b ∷ []))) (whole_lines bs) refl e
+  where
+    at : (t : Bool) → b == 10 ≡ t → cond t (b ∷ []) [] ≡ [] → whole_replies_on state (kept (line ++ b ∷ [])) bs ≡ [] → whole_replies_on state line (b ∷ bs) ≡ []
+    at true is f rest = cc
+    at false is f rest = ap (λ (t : Bool). cond t (written (step state line).reply ++ whole_replies_on (step state line).after [] bs) (whole_replies_on state (kept (line ++ b ∷ [])) bs)) is ∙ rest
+
+    by : (whole_lines bs ≡ [] → whole_replies_on state (kept (line ++ b ∷ [])) bs ≡ []) → (ws : List ℕ) → whole_lines bs ≡ ws → before_lines b ws ≡ [] → whole_replies_on state line (b ∷ bs) ≡ []
+    by rest [] is f = at (b == 10) refl f (rest is)
+    by rest (w ∷ ws) is f = cc
+
+-- the replies to whole lines are those to what stands up to the last newline
+some_lines : (bs : List ℕ) (w : ℕ) (ws : List ℕ) → whole_lines bs ≡ w ∷ ws → (state : State) (line : List ℕ) → whole_replies_on state line bs ≡ replies_on state line (w ∷ ws)
+unfolding replies_with
+some_lines [] w ws e state line = cc
+some_lines (b ∷ bs) w ws e state line = by (some_lines bs) (whole_lines bs) refl e
+  where
+    more : (vs : List ℕ) → ((s : State) (l : List ℕ) → whole_replies_on s l bs ≡ replies_on s l vs) → whole_replies_on state line (b ∷ bs) ≡ replies_on state line (b ∷ vs)
+    more vs rest = at (b == 10)
+      where
+        at : (t : Bool) → cond t (written (step state line).reply ++ whole_replies_on (step state line).after [] bs) (whole_replies_on state (kept (line ++ b ∷ [])) bs)
+            ≡ cond t (written (step state line).reply ++ replies_on (step state line).after [] vs) (replies_on state (kept (line ++ b ∷ [])) vs)
+        at true = ap (λ ys. written (step state line).reply ++ ys) (rest (step state line).after [])
+        at false = rest state (kept (line ++ b ∷ []))
+
+    ended : (t : Bool) → b == 10 ≡ t → cond t (b ∷ []) [] ≡ w ∷ ws → whole_lines bs ≡ [] → whole_replies_on state line (b ∷ bs) ≡ replies_on state line (w ∷ ws)
+    ended true is f none = last is none ∙ ap (replies_on state line) f
+      where
+        last : b == 10 ≡ true → whole_lines bs ≡ [] → whole_replies_on state line (b ∷ bs) ≡ replies_on state line (b ∷ [])
+        last newline nothing =
+            ap (λ (t : Bool). cond t (written (step state line).reply ++ whole_replies_on (step state line).after [] bs) (whole_replies_on state (kept (line ++ b ∷ [])) bs)) newline
+            ∙ ap (λ ys. written (step state line).reply ++ ys) (no_line bs nothing (step state line).after [])
+            ∙ sym (ap (λ (t : Bool). cond t (written (step state line).reply ++ []) (replies_on state (kept (line ++ b ∷ [])) [])) newline)
+    ended false is f none = cc
+
+    by : ((v : ℕ) (vs : List ℕ) → whole_lines bs ≡ v ∷ vs → (s : State) (l : List ℕ) → whole_replies_on s l bs ≡ replies_on s l (v ∷ vs)) → (vs : List ℕ) → whole_lines bs ≡ vs → before_lines b vs ≡ w ∷ ws
+        → whole_replies_on state line (b ∷ bs) ≡ replies_on state line (w ∷ ws)
+    by rest [] is f = ended (b == 10) refl f is
+    by rest (v ∷ vs) is f = more (v ∷ vs) (rest v vs is) ∙ ap (replies_on state line) f
+
+pub whole_transcript : (bytes : List ℕ) → whole_replies_on empty [] bytes ≡ transcript (whole_lines bytes)
+unfolding replies
+whole_transcript bytes = by (whole_lines bytes) refl
+  where
+    by : (ws : List ℕ) → whole_lines bytes ≡ ws → whole_replies_on empty [] bytes ≡ transcript ws
+    by [] is = no_line bytes is empty []
+    by (w ∷ ws) is = some_lines bytes w ws is empty [] ∙ sym (transcript_is (w ∷ ws))

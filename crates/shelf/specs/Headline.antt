@@ -1,7 +1,7 @@
 -- What a run of a script leaves.
-use Rattle.std.specs.Prelude.{◌≡◌, ℕ, ◌+◌, ◌-◌, ◌^◌, ◌<◌, ◌≤◌, ◌↔◌, List, [], ◌∷◌, ◌++◌, length, Option, None, Some, codes}
+use Rattle.std.specs.Prelude.{◌≡◌, ℕ, ◌+◌, ◌-◌, ◌^◌, ◌<◌, ◌≤◌, ◌↔◌, List, [], ◌∷◌, ◌++◌, length, take, Option, None, Some, codes}
 use Rattle.elem.specs.Outside.{Takes, TakesFront, Rose}
-use Rattle.shelf.specs.Transcript.{transcript}
+use Rattle.shelf.specs.Transcript.{transcript, whole_lines}
 use Rattle.std.specs.Prelude.{Result, Ok, Err}
 use Rattle.session.specs.declared.faults.ExecFault.{ExecFault}
 use Rattle.session.specs.declared.faults.ExecFault.TheVariants as faults
@@ -23,7 +23,13 @@ pub record Ran (bytes came left : List ℕ) (old new : Option (List ℕ)) (statu
   pub done : status ≡ Done → (left ≡ []) × Takes old new (transcript bytes)
   -- and else a front of the transcript of what was taken
   pub front : TakesFront old new (transcript came)
+  -- the replies of all whole lines that were read, before a read that failed
+  pub read_fault : status ≡ ReadFault → Takes old new (transcript (whole_lines came))
+  -- the replies of the first lines, each whole, before memory ran out
+  pub no_memory : status ≡ NoMemory → (front rest : List ℕ) × (came ≡ front ++ rest) × Takes old new (transcript (whole_lines front))
+  -- more came than a script may have, and the replies are those of the lines that are whole within it
   pub too_long : (status ≡ TooLong) ↔ (most_bytes < length came)
+  pub within : status ≡ TooLong → Takes old new (transcript (whole_lines (take most_bytes came)))
 
 -- the status of a fault in the execution of a line
 abbrev pub fault_status : ExecFault → Status

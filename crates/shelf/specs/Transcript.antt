@@ -17,3 +17,13 @@ replies state (line ∷ lines) = written (step state line).reply ++ replies (ste
 -- the replies to a script
 abbrev pub transcript : List ℕ → List ℕ
 transcript bytes = replies empty (lines_of bytes)
+
+-- a byte before the whole lines of the rest
+abbrev pub before_lines : ℕ → List ℕ → List ℕ
+before_lines b [] = if b == 10 then b ∷ [] else []
+before_lines b (c ∷ cs) = b ∷ c ∷ cs
+
+-- the whole lines at the front of a script: what stands up to its last newline
+abbrev pub whole_lines : List ℕ → List ℕ
+whole_lines [] = []
+whole_lines (b ∷ bs) = before_lines b (whole_lines bs)

@@ -3,7 +3,7 @@ ghost use Rattle.std.specs.Prelude.{◌≡◌, ℕ, ◌+◌, ◌^◌, ◌≤◌,
 ghost use Rattle.elem.specs.Outside.{Rose};
 ghost use Rattle.session.specs.State.{ChangesUpTo};
 ghost use Rattle.session.specs.Replying.{Wrote};
-ghost use Rattle.shelf.specs.Feed.{Fed, FedFront, replies_on};
+ghost use Rattle.shelf.specs.Feed.{Fed, FedFront, FedWhole, replies_on};
 
 use crate::line_buffer::LineBuffer;
 use elem::{Sink, Steps};
@@ -21,6 +21,7 @@ fn take_byte<S: Sink, L: Ledger>(
     requires { ChangesUpTo (2 ^ 62) session.old.bases }
     ensures ok { OnOk result (Fed session.old session.new line.old line.new (byte ∷ []) (S.taken sink.old) (S.taken sink.new)) }
     ensures err { OnErr result (FedFront session.old line.old (byte ∷ []) (S.taken sink.old) (S.taken sink.new)) }
+    ensures memory { result ≡ Err ExecFault.NoMemory → FedWhole session.old line.old (byte ∷ []) (S.taken sink.old) (S.taken sink.new) }
     ensures changes { (n : ℕ) → ChangesUpTo n session.old.bases → ChangesUpTo (n + 1) session.new.bases }
     ensures later { S.faults sink.old ≤ S.faults sink.new }
     ensures cause { result ≡ Err ExecFault.WriteFault → Rose (S.faults sink.old) (S.faults sink.new) }
@@ -48,6 +49,7 @@ pub fn feed<S: Sink, L: Ledger>(
     requires piece { length piece.now ≤ 2 ^ 61 }
     ensures ok { OnOk result (Fed session.old session.new line.old line.new piece.now (S.taken sink.old) (S.taken sink.new)) }
     ensures err { OnErr result (FedFront session.old line.old piece.now (S.taken sink.old) (S.taken sink.new)) }
+    ensures memory { result ≡ Err ExecFault.NoMemory → FedWhole session.old line.old piece.now (S.taken sink.old) (S.taken sink.new) }
     ensures changes { OnOk result ((n : ℕ) → ChangesUpTo n session.old.bases → ChangesUpTo (n + length piece.now) session.new.bases) }
     ensures later { S.faults sink.old ≤ S.faults sink.new }
     ensures cause { result ≡ Err ExecFault.WriteFault → Rose (S.faults sink.old) (S.faults sink.new) }

@@ -2,8 +2,8 @@ use Rattle.std.proofs.Common.{◌≡◌, ℕ, ◌+◌, ◌^◌, ◌≤◌, ◌<�
 use Rattle.std.proofs.lemmas.List.{take_more, take-append-drop}
 use Rattle.std.proofs.lemmas.Result.{on_err_weaker}
 use Rattle.session.specs.State.{State, ChangesUpTo}
-use Rattle.shelf.specs.Feed.{Fed, FedFront}
-use Rattle.shelf.proofs.Pieces.{fed_more, fed_front, longer_front, weaker}
+use Rattle.shelf.specs.Feed.{Fed, FedFront, FedWhole}
+use Rattle.shelf.proofs.Pieces.{fed_more, fed_front, fed_whole, longer_front, longer_whole, weaker}
 use Rattle.shelf.proofs.Runs.{ok_part}
 use Rattle.shelf.proofs.feeding.feed.Goals as goal
 
@@ -12,6 +12,12 @@ at_byte s t line next piece i old mid new lt f g =
     let one : take i piece ++ get_or piece i 0 ∷ [] ≡ take (i + 1) piece = sym (take_more piece i 0 lt) in
     subst (λ (p : List ℕ). FedFront s line p old new) (ap (λ p. p ++ drop (i + 1) piece) one ∙ take-append-drop (i + 1) piece)
     (longer_front s line (take i piece ++ get_or piece i 0 ∷ []) (drop (i + 1) piece) old new (fed_front s t line next (take i piece) (get_or piece i 0 ∷ []) old mid new f g))
+
+whole_at_byte : (s t : State) (line next piece : List ℕ) (i : ℕ) (old mid new : Option (List ℕ)) → i < length piece → Fed s t line next (take i piece) old mid → FedWhole t next (get_or piece i 0 ∷ []) mid new → FedWhole s line piece old new
+whole_at_byte s t line next piece i old mid new lt f g =
+    let one : take i piece ++ get_or piece i 0 ∷ [] ≡ take (i + 1) piece = sym (take_more piece i 0 lt) in
+    subst (λ (p : List ℕ). FedWhole s line p old new) (ap (λ p. p ++ drop (i + 1) piece) one ∙ take-append-drop (i + 1) piece)
+    (longer_whole s line (take i piece ++ get_or piece i 0 ∷ []) (drop (i + 1) piece) old new (fed_whole s t line next (take i piece) (get_or piece i 0 ∷ []) old mid new f g))
 
 pub take_byte-done-requires : goal.take_byte-done-requires
 take_byte-done-requires g c = weaker (2 ^ 61 + c.loop-byte.byte-index) (2 ^ 62) _ (omega arith) (c.loop-byte.invariant.changes (2 ^ 61) c.requires.changes)
@@ -33,3 +39,7 @@ loop-byte-preserved g c =
 
 pub returns-clause-changes : goal.returns-clause-changes
 returns-clause-changes g c = λ n h. weaker (n + c.loop-byte.byte-index) (n + length c.args.piece.now) _ (omega arith) (c.loop-byte.invariant.changes n h)
+
+pub returns-then-is_err-clause-memory : goal.returns-then-is_err-clause-memory
+returns-then-is_err-clause-memory g c = λ e.
+    whole_at_byte c.args.session.now c.loop-byte.session c.args.line.now c.loop-byte.line c.args.piece.now c.loop-byte.byte-index _ _ _ c.loop-byte-test.true c.loop-byte.invariant.fed (c.take_byte-done.ensures.memory e)

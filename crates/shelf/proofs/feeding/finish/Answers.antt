@@ -5,17 +5,17 @@ use Rattle.session.specs.State.{State}
 use Rattle.session.specs.Machine.{step}
 use Rattle.session.specs.Machine.{written}
 use Rattle.session.specs.Replying.{Wrote}
-use Rattle.shelf.specs.Feed.{replies_on, last_reply}
+use Rattle.shelf.specs.Feed.{replies_with, replies_on, last_reply}
 use Rattle.shelf.proofs.feeding.finish.Goals as goal
 
 none_left : (s : State) (line : List ℕ) (told : Option (List ℕ)) → line ≡ [] → Takes told told (replies_on s line [])
-unfolding replies_on
+unfolding replies_with
 none_left s [] None e = tt
 none_left s [] (Some xs) e = ap Some (sym (append-nil xs))
 none_left s (b ∷ bs) told e = cc
 
 one_left : (s : State) (line : List ℕ) → (line ≡ [] → ⊥) → written (step s line).reply ≡ replies_on s line []
-unfolding replies_on
+unfolding replies_with
 one_left s [] h = absurd (h refl)
 one_left s (b ∷ bs) h = refl
 
