@@ -1,5 +1,5 @@
 -- The replies to a script, as its bytes come one by one.
-use Rattle.std.proofs.Common.{◌≡◌, ℕ, ◌+◌, ◌<◌, ◌≤◌, ◌==◌, Bool, true, false, List, [], ◌∷◌, ◌++◌, length, take, cond, min, nat_lt, refl, sym, ◌∙◌, ap, subst, arith, append_assoc, length-append, inl, inr, ◌⊎◌}
+use Rattle.std.proofs.Common.{◌≡◌, ℕ, ◌+◌, ◌<◌, ◌≤◌, ◌==◌, Bool, true, false, List, [], ◌∷◌, ◌++◌, length, take, cond, min, nat_lt, refl, sym, ◌∙◌, ap, subst, arith, append_assoc, length-append, inl, inr, ◌⊎◌, zero, suc, get_or, drop}
 use Rattle.std.specs.List.{onto_first}
 use Rattle.std.proofs.lemmas.List.{append-nil, take_all, take-append-le, length-take}
 use Rattle.std.proofs.lemmas.Bool.Decides.{nat_tests, leb_tells}
@@ -9,12 +9,7 @@ use Rattle.session.specs.Machine.{step, step_of}
 use Rattle.session.specs.Lines.{Tree, read, long, form_of, trimmed}
 use Rattle.session.specs.Machine.{written}
 use Rattle.shelf.specs.Transcript.{lines_of, replies, transcript, before_lines, whole_lines}
-use Rattle.shelf.specs.Feed.{kept, last_reply, no_reply, replies_with, replies_on, whole_replies_on}
-
--- no newline
-abbrev pub IsOneLine : List ℕ → Type 0
-IsOneLine [] = Unit {0}
-IsOneLine (b ∷ bs) = (b == 10 ≡ false) × IsOneLine bs
+use Rattle.shelf.specs.Feed.{IsOneLine, kept, last_reply, no_reply, replies_with, replies_on, whole_replies_on}
 
 one_more : (line : List ℕ) (b : ℕ) → IsOneLine line → b == 10 ≡ false → IsOneLine (line ++ b ∷ [])
 one_more [] b h e = (e, tt)
@@ -39,12 +34,17 @@ read_kept line = elim (kept_cases line) as (λ _. read (kept line) ≡ read line
       read_long (kept line) (omega arith) ∙ sym (read_long line (omega arith))
 ]
 
-pub kept_push : (line : List ℕ) (c : ℕ) → kept (kept line ++ c ∷ []) ≡ kept (line ++ c ∷ [])
-kept_push line c = elim (kept_cases line) as (λ _. kept (kept line ++ c ∷ []) ≡ kept (line ++ c ∷ [])) [
-  | inl same ↦ ap (λ l. kept (l ++ c ∷ [])) same
-  | inr q ↦ let now : length (kept line) ≡ 1025 = q.0 in let before : 1025 ≤ length line = q.1 in
-      take-append-le 1025 (kept line) (c ∷ []) (omega arith) ∙ take_all 1025 (kept line) (omega arith) ∙ sym (take-append-le 1025 line (c ∷ []) before)
-]
+pub kept_short : (line : List ℕ) → length (kept line) ≤ 1025
+kept_short line = let cut : length (kept line) ≡ min 1025 (length line) = length-take 1025 line in omega (arith, cut)
+
+take-take : {X : Type 0} (n : ℕ) (xs ys : List X) → take n (take n xs ++ ys) ≡ take n (xs ++ ys)
+take-take zero xs ys = refl
+take-take (suc n) [] ys = refl
+take-take (suc n) (x ∷ xs) ys = ap (λ zs. x ∷ zs) (take-take n xs ys)
+
+-- what comes behind a line that was cut is cut as behind the whole line
+pub kept_more : (line more : List ℕ) → kept (kept line ++ more) ≡ kept (line ++ more)
+kept_more line more = take-take 1025 line more
 
 lines_at : (line more : List ℕ) → IsOneLine line → lines_of (line ++ 10 ∷ more) ≡ line ∷ lines_of more
 lines_at [] more h = refl
@@ -79,7 +79,7 @@ on_from state line (c ∷ cs) h = by (c == 10) refl (on_from (step state line).a
         replies state (lines_of (line ++ c ∷ cs)) ≡ replies_on state (kept line) (c ∷ cs)
     by true e rest more = newline (grind (arith, nat_tests)) rest
     by false e rest more =
-        sym (ap (λ l. replies state (lines_of l)) (append_assoc line (c ∷ []) cs)) ∙ more e ∙ ap (λ l. replies_on state l cs) (sym (kept_push line c))
+        sym (ap (λ l. replies state (lines_of l)) (append_assoc line (c ∷ []) cs)) ∙ more e ∙ ap (λ l. replies_on state l cs) (sym (kept_more line (c ∷ [])))
         ∙ sym (ap (λ (t : Bool). cond t (written (step state (kept line)).reply ++ replies_on (step state (kept line)).after [] cs) (replies_on state (kept (kept line ++ c ∷ [])) cs)) e)
 
 pub transcript_is : (bytes : List ℕ) → transcript bytes ≡ replies_on empty [] bytes
@@ -137,3 +137,25 @@ whole_transcript bytes = by (whole_lines bytes) refl
     by : (ws : List ℕ) → whole_lines bytes ≡ ws → whole_replies_on empty [] bytes ≡ transcript ws
     by [] is = no_line bytes is empty []
     by (w ∷ ws) is = some_lines bytes w ws is empty [] ∙ sym (transcript_is (w ∷ ws))
+
+-- ---- a newline that was found in a text
+
+pub found_cut : (text : List ℕ) (at : ℕ) → at < length text → get_or text at 0 == 10 ≡ true → text ≡ (take at text ++ 10 ∷ []) ++ drop (at + 1) text
+found_cut text at lt is = let one : suc at ≡ at + 1 = omega arith in cut text at lt is ∙ ap (λ n. (take at text ++ 10 ∷ []) ++ drop n text) one
+  where
+    cut : (bs : List ℕ) (k : ℕ) → k < length bs → get_or bs k 0 == 10 ≡ true → bs ≡ (take k bs ++ 10 ∷ []) ++ drop (suc k) bs
+    cut [] k lt is = absurd (let no : ⊥ = omega (arith, lt) in no)
+    cut (b ∷ bs) zero lt is = let ten : b ≡ 10 = grind (arith, nat_tests) in ap (λ c. c ∷ bs) ten
+    cut (b ∷ bs) (suc k) lt is = ap (λ cs. b ∷ cs) (cut bs k (omega (arith, lt)) is)
+
+pub front_one : (text : List ℕ) (at : ℕ) → ((k : ℕ) → 0 ≤ k → k < at → get_or text k 0 == 10 ≡ true → ⊥) → IsOneLine (take at text)
+front_one text zero none = tt
+front_one [] (suc at) none = tt
+front_one (b ∷ bs) (suc at) none = (differs (b == 10) refl, front_one bs at (λ k low lt is. none (suc k) (omega arith) (omega (arith, lt)) is))
+  where
+    differs : (t : Bool) → b == 10 ≡ t → b == 10 ≡ false
+    differs true e = absurd (none 0 (omega arith) (omega arith) e)
+    differs false e = e
+
+pub all_one : (text : List ℕ) → ((k : ℕ) → 0 ≤ k → k < length text → get_or text k 0 == 10 ≡ true → ⊥) → IsOneLine text
+all_one text none = subst IsOneLine (take_all (length text) text (omega arith)) (front_one text (length text) none)

@@ -1,16 +1,18 @@
 -- Pieces of a script, one after another.
-use Rattle.std.proofs.Common.{◌≡◌, ℕ, ◌==◌, ◌+◌, ◌≤◌, Bool, false, List, [], ◌∷◌, ◌++◌, Option, None, Some, Result, Ok, Err, OnOk, OnErr, cond, refl, sym, ◌∙◌, ap, subst, append_assoc, arith}
-use Rattle.std.proofs.lemmas.List.{append-nil}
+use Rattle.std.proofs.Common.{◌≡◌, ℕ, ◌==◌, ◌+◌, ◌≤◌, Bool, false, List, [], ◌∷◌, ◌++◌, length, Option, None, Some, Result, Ok, Err, OnOk, OnErr, cond, refl, sym, ◌∙◌, ap, subst, append_assoc, arith, length-append}
+use Rattle.std.proofs.lemmas.List.{append-nil, take_all}
 use Rattle.elem.specs.Outside.{Takes, TakesFront, Stays, IsFront}
 use Rattle.view_steps.specs.Views.{Base}
 use Rattle.session.specs.State.{State, ChangesUpTo}
-use Rattle.session.specs.Machine.{step}
+use Rattle.session.specs.Machine.{step, step_of}
 use Rattle.session.specs.Machine.{written}
 use Rattle.session.specs.Replying.{Wrote}
 use Rattle.session.specs.declared.faults.ExecFault.{ExecFault}
 use Rattle.session.specs.declared.faults.ExecFault.TheVariants.{WriteFault, NoMemory}
 use Rattle.session.proofs.ReplyLemmas.{takes_more, takes_none}
-use Rattle.shelf.specs.Feed.{Fed, FedFront, FedWhole, last_reply, no_reply, replies_with, replies_on, whole_replies_on, kept}
+use Rattle.session.specs.Lines.{read}
+use Rattle.shelf.proofs.Lines.{kept_more, kept_short, read_kept}
+use Rattle.shelf.specs.Feed.{IsOneLine, Fed, FedFront, FedWhole, last_reply, no_reply, replies_with, replies_on, whole_replies_on, kept}
 
 pub stays_takes : (old new : Option (List ℕ)) → Stays old new → Takes old new []
 stays_takes None new h = tt
@@ -46,33 +48,63 @@ longer_front s line a b old new f = record {
   rest = λ more. let tail = f.rest (b ++ more) in (tail.0, ap (replies_on s line) (append_assoc a b more) ∙ tail.1);
 }
 
-pub kept_on : (s : State) (line : List ℕ) (b : ℕ) (told : Option (List ℕ)) → b == 10 ≡ false → Fed s s line (kept (line ++ b ∷ [])) (b ∷ []) told told
-unfolding replies_with
-kept_on s line b told e = record {
-  text = [];
-  takes = takes_none told;
-  rest = λ at_end more. ap (λ (t : Bool). cond t (written (step s line).reply ++ replies_with at_end (step s line).after [] more) (replies_with at_end s (kept (line ++ b ∷ [])) more)) e;
-}
+-- ---- a text without a newline, and the newline behind it
 
-pub executed : (s t : State) (line : List ℕ) (old new : Option (List ℕ)) → t ≡ (step s line).after → Takes old new (written (step s line).reply) → Fed s t line [] (10 ∷ []) old new
+-- a text goes to the line that is being read
+over_text : (at_end : State → List ℕ → List ℕ) (s : State) (line text more : List ℕ) → length line ≤ 1025 → IsOneLine text → replies_with at_end s line (text ++ more) ≡ replies_with at_end s (kept (line ++ text)) more
 unfolding replies_with
-executed s t line old new after takes = record {
-  text = written (step s line).reply;
-  takes = takes;
-  rest = λ at_end more. ap (λ u. written (step s line).reply ++ replies_with at_end u [] more) (sym after);
-}
+over_text at_end s line [] more short one = ap (λ l. replies_with at_end s l more) (sym (ap kept (append-nil line) ∙ take_all 1025 line short))
+over_text at_end s line (b ∷ bs) more short one =
+    ap (λ (t : Bool). cond t (written (step s line).reply ++ replies_with at_end (step s line).after [] (bs ++ more)) (replies_with at_end s (kept (line ++ b ∷ [])) (bs ++ more))) one.0
+    ∙ over_text at_end s (kept (line ++ b ∷ [])) bs more (kept_short (line ++ b ∷ [])) one.1
+    ∙ ap (λ l. replies_with at_end s l more) (kept_more (line ++ b ∷ []) bs ∙ ap kept (append_assoc line (b ∷ []) bs))
 
-pub not_executed : (s : State) (line : List ℕ) (why : ExecFault) (old new : Option (List ℕ)) → Wrote {T = Unit {0}} (Err why) old new (written (step s line).reply) → FedFront s line (10 ∷ []) old new
+pub text_fed : (s : State) (line text : List ℕ) (told : Option (List ℕ)) → length line ≤ 1025 → IsOneLine text → Fed s s line (kept (line ++ text)) text told told
+text_fed s line text told short one = record { text = []; takes = takes_none told; rest = λ at_end more. over_text at_end s line text more short one }
+
+-- the replies behind a line that a text ends, where it is executed as a line that reads the same
+over_line : (at_end : State → List ℕ → List ℕ) (s : State) (line text seen more : List ℕ) → length line ≤ 1025 → IsOneLine text → read seen ≡ read (line ++ text)
+    → replies_with at_end s line ((text ++ 10 ∷ []) ++ more) ≡ written (step s seen).reply ++ replies_with at_end (step s seen).after [] more
 unfolding replies_with
-not_executed s line WriteFault old new h = record {
-  text = h.0;
-  takes = h.2;
+over_line at_end s line text seen more short one same =
+    ap (replies_with at_end s line) (append_assoc text (10 ∷ []) more) ∙ over_text at_end s line text (10 ∷ more) short one
+    ∙ ap (λ t. written (step_of s t).reply ++ replies_with at_end (step_of s t).after [] more) (read_kept (line ++ text) ∙ sym same)
+
+-- a line as it is executed: what came of it before, the text that ends it, and what was handed over
+pub record IsLine (line text seen : List ℕ) : Type 0 where
+  pub short : length line ≤ 1025
+  pub one : IsOneLine text
+  pub same : read seen ≡ read (line ++ text)
+
+pub line_fed : (r : Result (Unit {0}) ExecFault) (s t : State) (line text seen next : List ℕ) (old new : Option (List ℕ)) → IsLine line text seen → next ≡ [] →
+    OnOk r (t ≡ (step s seen).after) → Wrote r old new (written (step s seen).reply) → OnOk r (Fed s t line next (text ++ 10 ∷ []) old new)
+line_fed (Ok x) s t line text seen next old new l none after wrote = record {
+  text = written (step s seen).reply;
+  takes = wrote;
+  rest = λ at_end more. over_line at_end s line text seen more l.short l.one l.same
+      ∙ ap (λ u. written (step s seen).reply ++ replies_with at_end u [] more) (sym after)
+      ∙ ap (λ n. written (step s seen).reply ++ replies_with at_end t n more) (sym none);
+}
+line_fed (Err e) s t line text seen next old new l none after wrote = tt
+
+pub line_front : (r : Result (Unit {0}) ExecFault) (s : State) (line text seen : List ℕ) (old new : Option (List ℕ)) → IsLine line text seen → Wrote r old new (written (step s seen).reply) → OnErr r (FedFront s line (text ++ 10 ∷ []) old new)
+line_front (Ok x) s line text seen old new l wrote = tt
+line_front (Err WriteFault) s line text seen old new l wrote = record {
+  text = wrote.0;
+  takes = wrote.2;
   rest = λ more. (
-    (h.1).0 ++ replies_on (step s line).after [] more,
-    ap (λ ys. ys ++ replies_on (step s line).after [] more) (h.1).1 ∙ append_assoc h.0 (h.1).0 (replies_on (step s line).after [] more),
+    (wrote.1).0 ++ replies_on (step s seen).after [] more,
+    over_line last_reply s line text seen more l.short l.one l.same ∙ ap (λ ys. ys ++ replies_on (step s seen).after [] more) (wrote.1).1 ∙ append_assoc wrote.0 (wrote.1).0 (replies_on (step s seen).after [] more),
   );
 }
-not_executed s line NoMemory old new h = record { text = []; takes = stays_takes old new h; rest = λ more. (replies_on s line (10 ∷ more), refl) }
+line_front (Err NoMemory) s line text seen old new l wrote = record { text = []; takes = stays_takes old new wrote; rest = λ more. (replies_on s line ((text ++ 10 ∷ []) ++ more), refl) }
+
+-- a line that is handed over from its piece, and one from the buffer
+pub from_piece : (line text : List ℕ) → line ≡ [] → IsOneLine text → IsLine line text text
+from_piece line text none one = record { short = subst (λ (l : List ℕ). length l ≤ 1025) (sym none) (omega arith); one = one; same = ap (λ l. read (l ++ text)) (sym none) }
+
+pub from_buffer : (line text seen : List ℕ) → length line ≤ 1025 → IsOneLine text → seen ≡ kept (line ++ text) → IsLine line text seen
+from_buffer line text seen short one e = record { short = short; one = one; same = ap read e ∙ read_kept (line ++ text) }
 
 -- ---- whole lines, where memory ran out
 
@@ -107,15 +139,50 @@ pub weaker : (m n : ℕ) (bases : List Base) → m ≤ n → ChangesUpTo m bases
 weaker m n [] le h = tt
 weaker m n (it ∷ bases) le h = let first : it.change ≤ m = h.0 in (omega arith, weaker m n bases le h.1)
 
-pub at_newline : (r : Result (Unit {0}) ExecFault) (s t : State) (line seen next : List ℕ) (b : ℕ) (old new : Option (List ℕ)) → b ≡ 10 → next ≡ [] → seen ≡ line →
-    OnOk r (t ≡ (step s seen).after) → Wrote r old new (written (step s seen).reply) → OnOk r (Fed s t line next (b ∷ []) old new)
-at_newline (Ok x) s t line seen next b old new ten none same after wrote =
-    let fed : Fed s t seen [] (10 ∷ []) old new = executed s t seen old new after wrote in
-    subst (λ (l : List ℕ). Fed s t l next (b ∷ []) old new) same (subst (λ (n : List ℕ). Fed s t seen n (b ∷ []) old new) (sym none) (subst (λ (c : ℕ). Fed s t seen [] (c ∷ []) old new) (sym ten) fed))
-at_newline (Err e) s t line seen next b old new ten none same after wrote = tt
+-- ---- a piece, line by line
 
-pub at_fault : (r : Result (Unit {0}) ExecFault) (s : State) (line seen : List ℕ) (b : ℕ) (old new : Option (List ℕ)) → b ≡ 10 → seen ≡ line →
-    Wrote r old new (written (step s seen).reply) → OnErr r (FedFront s line (b ∷ []) old new)
-at_fault (Ok x) s line seen b old new ten same wrote = tt
-at_fault (Err e) s line seen b old new ten same wrote =
-    subst (λ (l : List ℕ). FedFront s l (b ∷ []) old new) same (subst (λ (c : ℕ). FedFront s seen (c ∷ []) old new) (sym ten) (not_executed s seen e old new wrote))
+-- How far a piece has come: its front was fed, and the rest is left.
+pub record Feeding (before after : State) (line next piece rest : List ℕ) (old new : Option (List ℕ)) : Type 0 where
+  pub done : List ℕ
+  pub parts : piece ≡ done ++ rest
+  pub fed : Fed before after line next done old new
+  pub changes : (n : ℕ) → ChangesUpTo n before.bases → ChangesUpTo (n + length done) after.bases
+
+pub begins_piece : (s : State) (line piece : List ℕ) (told : Option (List ℕ)) → Feeding s s line line piece piece told told
+begins_piece s line piece told = record { done = []; parts = refl; fed = nothing_fed s line told; changes = λ n h. weaker n (n + 0) s.bases (omega arith) h }
+
+module _ (s t : State) (line next piece rest : List ℕ) (old mid : Option (List ℕ)) (f : Feeding s t line next piece rest old mid) where
+  -- the front of a piece that was fed with one more line
+  pub goes_on : (u : State) (last text more : List ℕ) (new : Option (List ℕ)) → rest ≡ (text ++ 10 ∷ []) ++ more → Fed t u next last (text ++ 10 ∷ []) mid new → ((n : ℕ) → ChangesUpTo n t.bases → ChangesUpTo (n + 1) u.bases)
+      → Feeding s u line last piece more old new
+  goes_on u last text more new e g changes =
+      let longer : length (f.done ++ (text ++ 10 ∷ [])) ≡ length f.done + length (text ++ 10 ∷ []) = length-append f.done (text ++ 10 ∷ []) in
+      let line_long : length (text ++ 10 ∷ []) ≡ length text + 1 = length-append text (10 ∷ []) in
+      record {
+        done = f.done ++ (text ++ 10 ∷ []);
+        parts = f.parts ∙ ap (λ ys. f.done ++ ys) e ∙ sym (append_assoc f.done (text ++ 10 ∷ []) more);
+        fed = fed_more s t u line next last f.done (text ++ 10 ∷ []) old mid new f.fed g;
+        changes = λ n h. weaker (n + length f.done + 1) (n + length (f.done ++ (text ++ 10 ∷ []))) u.bases (omega (arith, longer, line_long)) (changes (n + length f.done) (f.changes n h));
+      }
+
+  whole_piece : (text more : List ℕ) → rest ≡ (text ++ 10 ∷ []) ++ more → (f.done ++ (text ++ 10 ∷ [])) ++ more ≡ piece
+  whole_piece text more e = append_assoc f.done (text ++ 10 ∷ []) more ∙ ap (λ ys. f.done ++ ys) (sym e) ∙ sym f.parts
+
+  pub stops_front : (text more : List ℕ) (new : Option (List ℕ)) → rest ≡ (text ++ 10 ∷ []) ++ more → FedFront t next (text ++ 10 ∷ []) mid new → FedFront s line piece old new
+  stops_front text more new e g =
+      subst (λ (p : List ℕ). FedFront s line p old new) (whole_piece text more e) (longer_front s line (f.done ++ (text ++ 10 ∷ [])) more old new (fed_front s t line next f.done (text ++ 10 ∷ []) old mid new f.fed g))
+
+  pub stops_whole : (text more : List ℕ) (new : Option (List ℕ)) → rest ≡ (text ++ 10 ∷ []) ++ more → FedWhole t next (text ++ 10 ∷ []) mid new → FedWhole s line piece old new
+  stops_whole text more new e g =
+      subst (λ (p : List ℕ). FedWhole s line p old new) (whole_piece text more e) (longer_whole s line (f.done ++ (text ++ 10 ∷ [])) more old new (fed_whole s t line next f.done (text ++ 10 ∷ []) old mid new f.fed g))
+
+  -- the rest goes to the line that is being read
+  pub ends_piece : (last : List ℕ) → length next ≤ 1025 → IsOneLine rest → last ≡ kept (next ++ rest) → Fed s t line last piece old mid
+  ends_piece last short one e =
+      subst (λ (p : List ℕ). Fed s t line last p old mid) (sym f.parts)
+      (fed_more s t t line next last f.done rest old mid mid f.fed (subst (λ (l : List ℕ). Fed t t next l rest mid mid) (sym e) (text_fed t next rest mid short one)))
+
+  pub changes_within : (n : ℕ) → ChangesUpTo n s.bases → ChangesUpTo (n + length piece) t.bases
+  changes_within n h =
+      let all : length piece ≡ length f.done + length rest = ap (λ (xs : List ℕ). length xs) f.parts ∙ length-append f.done rest in
+      weaker (n + length f.done) (n + length piece) t.bases (omega (arith, all)) (f.changes n h)

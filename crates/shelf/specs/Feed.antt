@@ -1,5 +1,5 @@
 -- A script that comes in pieces.
-use Rattle.std.specs.Prelude.{◌≡◌, ℕ, ◌==◌, List, [], ◌∷◌, ◌++◌, length, take, Option, Some, if◌then◌else◌}
+use Rattle.std.specs.Prelude.{◌≡◌, ℕ, ◌==◌, false, List, [], ◌∷◌, ◌++◌, length, take, Option, Some, if◌then◌else◌}
 use Rattle.elem.specs.Outside.{Takes, IsFront}
 use Rattle.session.specs.State.{State, empty}
 use Rattle.session.specs.Machine.{step}
@@ -8,6 +8,11 @@ use Rattle.session.specs.Machine.{written}
 -- what is kept of a line: no more than shows that it is too long
 abbrev pub kept : List ℕ → List ℕ
 kept line = take 1025 line
+
+-- no newline
+abbrev pub IsOneLine : List ℕ → Type 0
+IsOneLine [] = Unit {0}
+IsOneLine (b ∷ bs) = (b == 10 ≡ false) × IsOneLine bs
 
 -- what is said at the end of a script, where this came of a last line: its reply, or nothing where only whole lines count
 abbrev pub last_reply : State → List ℕ → List ℕ

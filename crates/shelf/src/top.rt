@@ -16,7 +16,7 @@ use std::sync::ledger::Ledger;
 const MOST_BYTES: u64 = 1 << 40;
 
 /// The greatest number of bytes that are read at once.
-const PIECE: usize = 4096;
+const PIECE: usize = 65536;
 
 impl From<ExecFault> for Status {
     ghost use Rattle.std.specs.Prelude.{◌≡◌};
@@ -95,7 +95,7 @@ fn run_script<I: Inputs, S: Sink, L: Ledger>(
 fn piece_size(taken: u64) -> usize
     requires { taken ≤ 2 ^ 40 }
     ensures some { 0 < result }
-    ensures fits { result ≤ 4096 }
+    ensures fits { result ≤ 65536 }
     ensures within { taken < 2 ^ 40 → taken + result ≤ 2 ^ 40 }
 {
     let left = MOST_BYTES - taken;
