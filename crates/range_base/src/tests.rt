@@ -76,6 +76,34 @@ fn ranges_that_touch_are_one_row(rt: HostRuntime) -> Result<(), std::test::Fail>
     ranges::<Brand, HostRuntime>(&rt, alloc, Blank::new(1))
 }
 
+fn complemented<L: Ledger, R: Abort>(
+    rt: &R,
+    alloc: Global,
+    blank: Blank,
+) -> Result<(), std::test::Fail>
+    requires name { blank.name ≡ L.name }
+    requires parts { blank.parts ≡ L.parts }
+    requires some { 0 < blank.parts }
+{
+    let mut steps: Steps<L> = Steps::new(blank);
+    let mut rows = RangeRows::new(alloc);
+    let tail = between(Cut::Below(Elem::Int(9)), Cut::End);
+    assert!(rt; rows.add(&closed(1, 5), &mut steps) == Ok(true));
+    assert!(rt; rows.cut_out(&closed(3, 3), &mut steps) == Ok(true));
+    assert!(rt; rows.add(&tail, &mut steps) == Ok(true));
+    assert!(rt; rows.first(&mut steps) == Some(closed_open(1, 3)));
+    assert!(rt; rows.after(&closed_open(1, 3), &mut steps) == Some(open_closed(3, 5)));
+    assert!(rt; rows.after(&open_closed(3, 5), &mut steps) == Some(tail));
+    assert!(rt; rows.len() == 3);
+    Ok(())
+}
+
+#[test]
+fn a_number_cut_out_parts_a_row(rt: HostRuntime) -> Result<(), std::test::Fail> {
+    let alloc = rt.alloc();
+    complemented::<Brand, HostRuntime>(&rt, alloc, Blank::new(1))
+}
+
 fn valued<L: Ledger, R: Abort>(rt: &R, alloc: Global, blank: Blank) -> Result<(), std::test::Fail>
     requires name { blank.name ≡ L.name }
     requires parts { blank.parts ≡ L.parts }
