@@ -1,6 +1,6 @@
 -- What a store's lists have at their places, and what another base adds to them.
-use Rattle.std.proofs.Common.{◌≡◌, ℕ, ◌+◌, ◌-◌, ◌<◌, ◌≤◌, Bool, true, List, [], ◌∷◌, ◌++◌, length, get_or, take, refl, ap, sym, ◌∙◌, subst, inl, inr, arith, length-append, zero, suc}
-use Rattle.std.specs.Prelude.{slice_get, Option, Some, None}
+use Rattle.std.proofs.Common.{◌≡◌, ℕ, ◌+◌, ◌-◌, ◌<◌, ◌≤◌, true, List, [], ◌∷◌, ◌++◌, length, get_or, refl, ap, sym, ◌∙◌, subst, inl, inr, arith, length-append, zero, suc}
+use Rattle.std.specs.Prelude.{slice_get, Some}
 use Rattle.std.proofs.lemmas.Option.{same_Some, slice_get-get_or, slice_get_within}
 use Rattle.std.proofs.lemmas.Bool.{cases_lt}
 use Rattle.std.proofs.lemmas.List.{get_or-append_right, get_or_append_left, get_or_push, append-nil}
@@ -8,7 +8,7 @@ use Rattle.view_steps.specs.Views.{base, over}
 use Rattle.view_steps.specs.declared.steps.Step.{Step}
 use Rattle.base_store.specs.Nodes.{IsBelow, view_at}
 use Rattle.base_store.proofs.ViewLemmas.{view_at-node, view_at-append}
-use Rattle.base_store.specs.Stored.{Place, Stored, IsBuilt, AllThere, place_at, no_place, view_in}
+use Rattle.base_store.specs.Stored.{Place, Stored, IsBuilt, AllThere, view_in}
 use Rattle.base_store.specs.declared.store.Made.{Made}
 use Rattle.base_store.specs.declared.store.Made.TheVariants as made
 

@@ -1,10 +1,10 @@
 -- What is made of a node is made of what its parent gave, and nodes that come later do not change it.
-use Rattle.std.proofs.Common.{◌≡◌, ℕ, ◌+◌, ◌<◌, ◌≤◌, List, [], ◌∷◌, ◌++◌, length, get_or, take, drop, refl, ap, sym, ◌∙◌, arith, length-append, zero, suc, zero-add, add-zero}
-use Rattle.std.specs.Prelude.{slice_get, fold, Option, Some, None}
+use Rattle.std.proofs.Common.{◌≡◌, ℕ, ◌+◌, ◌<◌, List, [], ◌∷◌, ◌++◌, length, get_or, take, drop, refl, ap, sym, ◌∙◌, arith, length-append, zero, suc, zero-add, add-zero}
+use Rattle.std.specs.Prelude.{slice_get, fold, Some}
 use Rattle.std.proofs.lemmas.Option.{same_Some}
 use Rattle.std.proofs.lemmas.List.{get_or_append_left, get_or_push, take-append-drop}
 use Rattle.std.proofs.lemmas.Grind.{fold-append}
-use Rattle.view_steps.specs.Views.{View, base, over}
+use Rattle.view_steps.specs.Views.{base, over}
 use Rattle.base_store.specs.Nodes.{made_of, view_of, view_at, IsBelow}
 use Rattle.base_store.specs.declared.store.Made.{Made}
 use Rattle.base_store.specs.declared.store.Made.TheVariants.{Base, Over}

@@ -1,5 +1,5 @@
 -- What a write does to a base: rows that go, rows that come, and the change number.
-use Rattle.std.specs.Prelude.{ℕ, ◌+◌, Bool, true, false, ◌||◌, nat_eq, nat_lt, List, [], ◌∷◌, length, fold, if◌then◌else◌}
+use Rattle.std.specs.Prelude.{ℕ, ◌+◌, Bool, ◌||◌, nat_eq, nat_lt, List, [], ◌∷◌, length, fold, if◌then◌else◌}
 use Rattle.std.specs.List.{list_any}
 use Rattle.elem.specs.Elements.{same}
 use Rattle.view_steps.specs.declared.items.Item.{Item}

@@ -1,5 +1,5 @@
 -- Nodes unfolded: what is made of each node from what is made of the nodes before it.
-use Rattle.std.specs.Prelude.{ℕ, ◌+◌, ◌<◌, List, [], ◌∷◌, ◌++◌, length, get_or, fold}
+use Rattle.std.specs.Prelude.{ℕ, ◌+◌, ◌<◌, List, [], ◌∷◌, ◌++◌, get_or, fold}
 use Rattle.base_store.specs.declared.store.Made.{Made}
 use Rattle.base_store.specs.declared.store.Made.TheVariants.{Base, Over}
 use Rattle.view_steps.specs.Views.{View, base, over}

@@ -1,12 +1,12 @@
 -- A store as contracts see it: its bases, each at its place or away while it is changed, and its nodes.
-use Rattle.std.specs.Prelude.{◌≡◌, ℕ, ◌+◌, ◌<◌, ◌≤◌, Bool, true, false, List, [], ◌∷◌, ◌++◌, length, take, Option, Some, if◌then◌else◌, map, get_or, slice_get, slice_set}
+use Rattle.std.specs.Prelude.{◌≡◌, ℕ, ◌+◌, ◌<◌, ◌≤◌, Bool, true, false, List, [], ◌∷◌, ◌++◌, length, take, Some, if◌then◌else◌, map, get_or, slice_get, slice_set}
 use Rattle.base_store.specs.declared.store.Made.{Made}
 use Rattle.base_store.specs.declared.store.Made.TheVariants as made
 use Rattle.base_store.specs.Nodes.{IsBelow, view_at}
 use Rattle.view_steps.specs.declared.items.Item.{Item}
 use Rattle.view_steps.specs.declared.kinds.Kind.{Kind}
 use Rattle.view_steps.specs.declared.kinds.Kind.TheVariants.{LinkedHashMap}
-use Rattle.view_steps.specs.Views.{Base, World, View, empty_base, base_at}
+use Rattle.view_steps.specs.Views.{Base, World, View, empty_base}
 
 -- a base, and whether it stands at its place
 pub record Place : Type 0 where

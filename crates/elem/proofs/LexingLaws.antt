@@ -1,7 +1,7 @@
 -- The tokens of a text, one after the other.
-use Rattle.std.proofs.Common.{◌≡◌, ℕ, zero, suc, ◌+◌, ◌-◌, ◌<◌, ◌≤◌, ◌≢◌, ◌↔◌, true, false, List, [], ◌∷◌, ◌++◌, length, take, drop, Option, Some, None, Bool, ◌⊎◌, inl, inr, cond, refl, sym, ap, ◌∙◌, arith, add-zero, append_assoc, length-append, length-drop, get_or}
+use Rattle.std.proofs.Common.{◌≡◌, ℕ, zero, suc, ◌+◌, ◌-◌, ◌<◌, ◌≤◌, ◌≢◌, ◌↔◌, true, false, List, [], ◌∷◌, ◌++◌, length, take, drop, Option, Some, None, Bool, ◌⊎◌, inl, inr, refl, sym, ap, ◌∙◌, arith, add-zero, length-append, length-drop, get_or}
 use Rattle.std.specs.Prelude.{◌&&◌, ◌||◌, ◌==◌}
-use Rattle.std.proofs.lemmas.List.{drop_at, drop_more, drop-drop, take_all, append-nil}
+use Rattle.std.proofs.lemmas.List.{drop_at, drop_more, drop-drop, take_all}
 use Rattle.std.proofs.Math.ListN.{drop_of_length-le}
 use Rattle.elem.specs.declared.lexing.Lexeme.{Lexeme}
 use Rattle.elem.specs.declared.tokens.Token.{Token}
@@ -14,7 +14,6 @@ use Rattle.elem.specs.Words.{is_word, starts_word, is_digit}
 use Rattle.elem.specs.Tokens.{sign_text, token_text, IsToken, IsTokenAt, token_at}
 use Rattle.elem.specs.Lexing.{spaces, Begins, Spells, lexeme, with_first, with_token, lexed_past, lexed_from, lexed}
 use Rattle.elem.proofs.TokenLaws.{token_found, token_again}
-use Rattle.std.specs.Option.{option_map}
 use Rattle.elem.proofs.NumberText.{number_text, and_parts}
 
 -- ---- a space

@@ -1,7 +1,6 @@
 -- What the fakes find and give.
-use Rattle.std.proofs.Common.{◌≡◌, ℕ, ◌+◌, ◌<◌, ◌≤◌, Bool, true, false, not, List, [], ◌∷◌, ◌++◌, length, take, drop, get_or, map, cond, nat_eq, nat_lt, Option, Some, None, Result, Ok, Err, OnOk, OnErr, refl, sym, ◌∙◌, ap, arith, suc, zero, length-append}
+use Rattle.std.proofs.Common.{◌≡◌, ℕ, ◌+◌, ◌<◌, ◌≤◌, Bool, true, false, not, List, [], ◌∷◌, ◌++◌, length, take, drop, map, cond, nat_eq, nat_lt, Some, None, Result, Ok, Err, refl, sym, ◌∙◌, ap, arith, suc}
 use Rattle.std.specs.List.{position, position_or_len}
-use Rattle.std.specs.Map.{lookup}
 use Rattle.std.specs.Result.{is_ok}
 use Rattle.std.specs.Cmp.Lexicographic.{pointwise}
 use Rattle.std.proofs.lemmas.List.{drop-drop, take_at, take-append-drop, length-take, append-nil}

@@ -1,6 +1,5 @@
 -- What a range is as tokens, and what is read, are one thing.
-use Rattle.std.proofs.Common.{◌≡◌, ℕ, suc, Bool, true, false, cond, ◌≢◌, ◌⊎◌, inl, inr, List, [], ◌∷◌, length, get_or, ◌-◌, ◌<◌, ◌≤◌, Option, Some, None, Result, Ok, Err, refl, sym, ap, subst, ◌∙◌, arith}
-use Rattle.elem.specs.declared.elements.Elem.{Elem}
+use Rattle.std.proofs.Common.{◌≡◌, ℕ, Bool, true, false, cond, ◌≢◌, ◌⊎◌, inl, inr, List, [], ◌∷◌, length, get_or, ◌-◌, ◌<◌, ◌≤◌, Option, Some, None, refl, sym, ap, ◌∙◌, arith}
 use Rattle.elem.specs.declared.elements.Elem.TheVariants.{Int, Text}
 use Rattle.elem.specs.declared.cuts.Cut.{Cut}
 use Rattle.elem.specs.declared.cuts.Cut.TheVariants.{Start, Below, Above, End}
@@ -10,9 +9,9 @@ use Rattle.elem.specs.declared.tokens.Token.{Token}
 use Rattle.elem.specs.declared.tokens.Token.TheVariants as tokens
 use Rattle.elem.specs.declared.lexing.Lexeme.{Lexeme}
 use Rattle.elem.specs.SpanTexts.{low_tokens, high_tokens, span_tokens, HasEnds, low_of, high_of, span_between, span_at, span_of, span_within, span_text, extent, last_end, IsSpanText}
-use Rattle.elem.specs.Lexing.{Spells, kinds_of, lexed}
+use Rattle.elem.specs.Lexing.{kinds_of, lexed}
 use Rattle.elem.proofs.LexingLaws.{lexed_spells, spells_lexed}
-use Rattle.std.specs.Prelude.{IfSome, ◌&&◌, ◌==◌}
+use Rattle.std.specs.Prelude.{◌&&◌, ◌==◌}
 use Rattle.std.proofs.lemmas.Bool.{eqb-true, cases_lt}
 use Rattle.std.proofs.lemmas.Bool.Decides.{nat_tests}
 use Rattle.elem.proofs.NumberText.{and_parts}

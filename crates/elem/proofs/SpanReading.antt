@@ -9,11 +9,11 @@ use Rattle.elem.specs.declared.span_texts.SpanFault.{SpanFault}
 use Rattle.elem.specs.declared.span_texts.SpanFault.TheVariants.{NotGrammar, Invalid}
 use Rattle.elem.specs.Elements.{same}
 use Rattle.elem.specs.ElementLaws.{same-Decides}
-use Rattle.elem.specs.Orders.{natural_before, IsStrictOrder}
+use Rattle.elem.specs.Orders.{natural_before}
 use Rattle.elem.specs.OrderLaws.{natural_before_strict}
 use Rattle.elem.specs.Spans.{upto, IsSpan}
-use Rattle.elem.specs.SpanTexts.{HasEnds, IsInvalid, IsSpanText, span_text, checked}
-use Rattle.elem.proofs.SpanLaws.{text_found, text_again, some_range}
+use Rattle.elem.specs.SpanTexts.{IsInvalid, IsSpanText, span_text, checked}
+use Rattle.elem.proofs.SpanLaws.{text_found, text_again}
 
 -- ---- ends out of order
 

@@ -1,23 +1,21 @@
 -- The printed spelling of a range is read as that range.
-use Rattle.std.proofs.Common.{◌≡◌, ◌≢◌, ℕ, ◌+◌, true, List, [], ◌∷◌, ◌++◌, length, Some, Ok, refl, sym, ap, ◌∙◌, arith, append_assoc, length-append}
-use Rattle.std.proofs.lemmas.List.{append-nil}
+use Rattle.std.proofs.Common.{◌≡◌, ◌≢◌, ℕ, ◌+◌, true, List, [], ◌∷◌, ◌++◌, length, Some, Ok, refl, ap, ◌∙◌, arith, length-append}
 use Rattle.elem.specs.declared.elements.Elem.{Elem}
 use Rattle.elem.specs.declared.elements.Elem.TheVariants.{Int, Text}
 use Rattle.elem.specs.declared.cuts.Cut.{Cut}
 use Rattle.elem.specs.declared.cuts.Cut.TheVariants.{Start, Below, Above, End}
 use Rattle.elem.specs.declared.spans.Span.{Span}
-use Rattle.elem.specs.declared.tokens.Sign.{Sign}
-use Rattle.elem.specs.declared.tokens.Sign.TheVariants.{Lowest, Highest, Dots, Open, Close, OpenSquare, CloseSquare}
+use Rattle.elem.specs.declared.tokens.Sign.TheVariants.{Lowest, Dots, Open, OpenSquare}
 use Rattle.elem.specs.declared.tokens.Token.{Token}
 use Rattle.elem.specs.declared.tokens.Token.TheVariants as tokens
 use Rattle.elem.specs.declared.lexing.Lexeme.{Lexeme}
 use Rattle.elem.specs.Words.{is_digit, starts_word, continues_word}
 use Rattle.elem.specs.Elements.{IsElem}
 use Rattle.elem.specs.Cuts.{IsCut}
-use Rattle.elem.specs.Spans.{upto, IsSpan}
+use Rattle.elem.specs.Spans.{IsSpan}
 use Rattle.elem.specs.Spelling.{spelling}
-use Rattle.elem.specs.Tokens.{sign_text, token_text, IsToken, is_ended, goes_on}
-use Rattle.elem.specs.Lexing.{Spells, Begins, kinds_of, lexeme}
+use Rattle.elem.specs.Tokens.{token_text, IsToken, is_ended}
+use Rattle.elem.specs.Lexing.{Spells, kinds_of, lexeme}
 use Rattle.elem.specs.SpanTexts.{element_token, low_tokens, high_tokens, span_tokens, extent, last_end, low_text, high_text, span_spelling, span_text, checked}
 use Rattle.elem.proofs.TokenLaws.{never_goes_on}
 use Rattle.elem.proofs.SpanLaws.{text_again}

@@ -17,7 +17,6 @@ use Rattle.elem.specs.declared.tokens.Kind.TheVariants as kinds
 use Rattle.elem.specs.Words.{is_digit, starts_word, continues_word, is_word}
 use Rattle.elem.specs.Tokens.{sign_text, token_text, IsToken, goes_on, is_ended, IsTokenAt, begins_infinity, begins_dot, sign_of, kind_at, token_of, token_at_kind, token_at}
 use Rattle.elem.specs.Spelling.{number_of}
-use Rattle.elem.specs.Words.{word_of}
 use Rattle.elem.proofs.NumberText.{number_read, number_again as spelled_again}
 use Rattle.elem.proofs.NumberText.{number_text, starts_no_word, and_parts}
 

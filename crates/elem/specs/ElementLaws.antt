@@ -1,14 +1,14 @@
 -- `same` decides equality, and the natural order is total and ties exactly what is the same.
-use Rattle.std.proofs.Common.{◌≡◌, Bool, true, false, ℤ, List, ℕ, nat_eq, ap, refl, sym, ◌∙◌}
+use Rattle.std.proofs.Common.{◌≡◌, List, ℕ, nat_eq, ap, refl, sym, ◌∙◌}
 use Rattle.std.specs.Prelude.{IsTrue}
 use Rattle.std.specs.Bool.{Decides, one_answer}
 use Rattle.std.specs.Cmp.{IsEquivalence, IsTotalOrder, decided, on_total, then_total, nat_cmp_total, int_cmp_total}
 use Rattle.std.specs.Cmp.Lexicographic.{pointwise, slice_cmp, nat_list_cmp_total}
-use Rattle.std.specs.Ordering.{int_eq, int_cmp, nat_cmp, is_eq, ordering_then}
+use Rattle.std.specs.Ordering.{int_cmp, nat_cmp, is_eq, ordering_then}
 use Rattle.std.specs.declared.cmp.Ordering.{Ordering}
 use Rattle.std.specs.declared.cmp.Ordering.TheVariants.{Less, Equal, Greater}
-use Rattle.std.proofs.lemmas.Bool.Decides.{Decides-int_eq, Decides-eqb}
-use Rattle.std.proofs.lemmas.Slice.Eq.{slice_eq-Decides, bytes_eq-Decides}
+use Rattle.std.proofs.lemmas.Bool.Decides.{Decides-int_eq}
+use Rattle.std.proofs.lemmas.Slice.Eq.{bytes_eq-Decides}
 use Rattle.std.proofs.lemmas.Map.Text.{is_eq-slice_cmp}
 use Rattle.elem.specs.declared.elements.Elem.{Elem}
 use Rattle.elem.specs.declared.elements.Elem.TheVariants.{Int, Text}

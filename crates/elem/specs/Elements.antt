@@ -1,5 +1,5 @@
 -- Elements: when two are the same, their natural order, and what one feeds a hasher.
-use Rattle.std.specs.Prelude.{◌≡◌, ℕ, Bool, true, false, List, [], ◌∷◌, ◌++◌, nat_eq, ℤ, pos, FitsSigned}
+use Rattle.std.specs.Prelude.{◌≡◌, ℕ, Bool, true, false, List, [], nat_eq, ℤ, pos, FitsSigned}
 use Rattle.std.specs.Int.{w64}
 use Rattle.std.specs.Hash as fed
 use Rattle.std.specs.Ordering.{int_eq, int_cmp, nat_cmp, on, then_cmp}

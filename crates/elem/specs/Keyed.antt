@@ -1,5 +1,5 @@
 -- Rows by their elements: the words of the contract of keyed rows.
-use Rattle.std.specs.Prelude.{◌≡◌, ℕ, List, ◌++◌, Option, None, insert, IsSome}
+use Rattle.std.specs.Prelude.{◌≡◌, ℕ, List, Option, None, insert, IsSome}
 use Rattle.std.specs.Map.{lookup, remove_entry, set_value, keys_of}
 use Rattle.std.specs.List.{IsDistinct}
 use Rattle.elem.specs.declared.elements.Elem.{Elem}

@@ -1,13 +1,11 @@
 -- The one spelling of each element.
-use Rattle.std.specs.Prelude.{FitsSigned, ◌≡◌, ◌≢◌, ℕ, ◌+◌, ◌-◌, ◌*◌, ◌^◌, Bool, true, false, ◌&&◌, List, Option, None, Some, nat_eq, nat_lt, ℤ, pos, negsuc, if◌then◌else◌, IfSome, IfNone}
+use Rattle.std.specs.Prelude.{ℕ, ◌^◌, Bool, ◌&&◌, List, Option, None, Some, nat_eq, nat_lt, ℤ, pos, negsuc, if◌then◌else◌}
 use Rattle.std.specs.Option.{option_map}
-use Rattle.std.specs.Int.{w64}
 use Rattle.std.specs.Str.Parse.{signed_digits_value}
 use Rattle.std.specs.Cmp.Lexicographic.{pointwise}
 use Rattle.std.specs.Fmt.{signed_decimal}
 use Rattle.elem.specs.declared.elements.Elem.{Elem}
 use Rattle.elem.specs.declared.elements.Elem.TheVariants.{Int, Text}
-use Rattle.elem.specs.Elements.{IsElem}
 use Rattle.elem.specs.Words.{is_word}
 
 -- a number in decimal, a word as it is

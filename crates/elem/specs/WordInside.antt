@@ -1,5 +1,5 @@
 -- A word's array gives the word back, and the word its array.
-use Rattle.std.specs.Prelude.{◌≡◌, ℕ, ◌-◌, ◌+◌, ◌≤◌, min, List, ◌++◌, length, take, replicate}
+use Rattle.std.specs.Prelude.{◌≡◌, ℕ, ◌-◌, ◌+◌, ◌≤◌, min, List, length, take, replicate}
 use Rattle.std.proofs.Common.{sym, ◌∙◌, ap, arith, length-append}
 use Rattle.std.proofs.lemmas.List.{length-take, length-replicate}
 use Rattle.elem.specs.Words.{IsPacked, packed}

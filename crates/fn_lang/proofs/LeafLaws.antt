@@ -1,5 +1,5 @@
 -- A word with a text behind it, cut after 24 bytes, is a word.
-use Rattle.std.proofs.Common.{◌≡◌, ℕ, zero, suc, ◌<◌, ◌≤◌, Bool, true, false, cond, List, [], ◌∷◌, ◌++◌, length, take, Option, Some, None, refl, sym, ap, ◌∙◌, arith}
+use Rattle.std.proofs.Common.{◌≡◌, ℕ, zero, suc, ◌<◌, true, List, [], ◌∷◌, ◌++◌, length, take, Option, Some, None, refl, ◌∙◌, arith}
 use Rattle.std.specs.Prelude.{◌&&◌, ◌||◌, ◌==◌, nat_lt}
 use Rattle.std.specs.List.{list_all}
 use Rattle.std.proofs.lemmas.Bool.Decides.{nat_tests}
@@ -11,7 +11,6 @@ use Rattle.elem.specs.Elements.{IsElem}
 use Rattle.elem.specs.Spelling.{spelling}
 use Rattle.elem.specs.Words.{is_word, word_of, starts_word, continues_word, is_digit}
 use Rattle.elem.proofs.NumberText.{number_text, and_parts}
-use Rattle.fn_lang.specs.Meaning.{prefixed}
 
 digit_continues : (b : ℕ) → is_digit b ≡ true → continues_word b ≡ true
 unfolding continues_word starts_word is_digit

@@ -27,7 +27,7 @@ use Rattle.fn_lang.specs.declared.steps.Shape.{Shape}
 use Rattle.fn_lang.specs.declared.steps.Shape.TheVariants as shapes
 use Rattle.fn_lang.specs.declared.steps.Step.{Step}
 use Rattle.fn_lang.specs.Trees.{PredTree, FuncTree, One as Single, And, Or, Not, OfKey, OfValue, Both, Either, Neither, Leaf, Then, When, pred_parts, pair_parts, func_parts}
-use Rattle.fn_lang.specs.Flat.{IsPred, IsPairPred, IsFunc, IsSort}
+use Rattle.fn_lang.specs.Flat.{IsPred, IsFunc, IsSort}
 use Rattle.fn_lang.specs.Reading.{same_codes, shape_of, pred_shape, pair_shape, func_shape, given_part, plus_part, times_part, starts_part, prefix_part, step_of, tree_step, open_step, comma_step, open_given_step, close_step, shape_step, inner_step, part_step, stepped, wanted, nothing_wanted, parse, parse_all, is_open}
 
 abbrev InSorts : Inner → List Part → Type 0

@@ -1,6 +1,5 @@
 -- Predicates and functions as trees, and their lists of parts.
-use Rattle.std.specs.Prelude.{◌≡◌, Bool, List, [], ◌∷◌, ◌++◌, Option, Some, None}
-use Rattle.elem.specs.declared.elements.Elem.{Elem}
+use Rattle.std.specs.Prelude.{List, [], ◌∷◌, ◌++◌, Option, Some, None}
 use Rattle.fn_lang.specs.declared.leaves.Test.{Test}
 use Rattle.fn_lang.specs.declared.leaves.Map.{Map}
 use Rattle.fn_lang.specs.declared.parts.Part.{Part}

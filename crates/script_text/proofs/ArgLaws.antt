@@ -1,7 +1,6 @@
 -- An argument as a tree, and the tokens that step through it.
 use Rattle.std.proofs.Common.{◌≡◌, ◌≢◌, ◌⊎◌, inl, inr, ℕ, ℤ, zero, suc, Bool, true, false, List, [], ◌∷◌, ◌++◌, Option, Some, None, refl, sym, ap, ◌∙◌, append_assoc}
 use Rattle.std.proofs.lemmas.List.{append-nil}
-use Rattle.std.specs.Option.{option_map}
 use Rattle.elem.specs.declared.elements.Elem.{Elem}
 use Rattle.elem.specs.declared.elements.Elem.TheVariants.{Int, Text}
 use Rattle.elem.specs.declared.cuts.Cut.{Cut}
@@ -15,7 +14,7 @@ use Rattle.elem.specs.SpanTexts.{element_token, low_tokens, high_tokens, span_to
 use Rattle.script_text.specs.declared.stages.Within.{Within}
 use Rattle.script_text.specs.declared.stages.Within.TheVariants.{First, Next, Named, Done, LowAny, LowElement, Dots, High, CloseAny, CloseRound}
 use Rattle.script_text.specs.Grammar.{Arg, Args, Number, Bare, Apply, Range, Nil, Cons, arg_tokens, args_tokens, more_tokens}
-use Rattle.script_text.specs.Stages.{step, behind, begins, first_step, named_step, same_depth, range_step, low_step, high_step, end_step, dots_step, close_any, close_round}
+use Rattle.script_text.specs.Stages.{step, behind, begins, first_step, named_step, same_depth, low_step, high_step, end_step, dots_step, close_any, close_round}
 use Rattle.script_text.specs.Calls.{and_then}
 
 -- ---- tokens that complete an argument

@@ -1,5 +1,5 @@
 -- The line that tokens are.
-use Rattle.std.proofs.Common.{◌≡◌, ℕ, Bool, true, false, cond, List, [], ◌∷◌, Option, Some, None, refl, sym, ap, ◌∙◌}
+use Rattle.std.proofs.Common.{◌≡◌, ℕ, Bool, true, false, cond, List, [], ◌∷◌, Option, Some, None, refl, sym, ap}
 use Rattle.std.specs.Option.{option_map}
 use Rattle.std.specs.Prelude.{codes, ◌&&◌}
 use Rattle.std.proofs.lemmas.Slice.Eq.{bytes_eq-Decides}
@@ -14,7 +14,7 @@ use Rattle.script_text.specs.Names.{same_codes, is_name}
 use Rattle.script_text.specs.Trees.{Call, Expression, Tree, Blank, New, Let, It, Eval, Syntax, Long, no_slice}
 use Rattle.script_text.specs.Stages.{Rest, reading}
 use Rattle.script_text.specs.Calls.{CallsAre, calls_of}
-use Rattle.script_text.specs.Lines.{IsExpression, Binds, IsForm, Bound, expression_of, expression_at, bound_at, bound_of, tree_or_fault, line_with, line_at, form_of}
+use Rattle.script_text.specs.Lines.{IsExpression, Binds, IsForm, Bound, expression_of, expression_at, bound_at, bound_of, tree_or_fault, line_at, form_of}
 use Rattle.script_text.proofs.SoundLaws.{calls_sound}
 use Rattle.script_text.proofs.WholeLaws.{calls_again}
 

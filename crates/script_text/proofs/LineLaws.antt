@@ -4,15 +4,14 @@ use Rattle.std.specs.Prelude.{codes, nat_lt}
 use Rattle.std.proofs.lemmas.Bool.Decides.{nat_tests}
 use Rattle.std.proofs.lemmas.Bool.{cases_lt}
 use Rattle.elem.specs.declared.lexing.Lexeme.{Lexeme}
-use Rattle.elem.specs.declared.tokens.Token.{Token}
 use Rattle.elem.specs.declared.tokens.Token.TheVariants as tokens
-use Rattle.elem.specs.Lexing.{Spells, lexed, with_first, lexeme}
+use Rattle.elem.specs.Lexing.{lexed, with_first, lexeme}
 use Rattle.elem.proofs.LexingLaws.{lexed_spells, spells_lexed}
 use Rattle.script_text.specs.declared.lines.Slice.{Slice}
 use Rattle.script_text.specs.Names.{same_codes, is_name}
-use Rattle.script_text.specs.Trees.{Call, Expression, Tree, Blank, New, Let, It, Eval, Syntax, Long, map_tree, in_pieces}
-use Rattle.script_text.specs.Lines.{IsComment, IsNew, IsExpression, Binds, IsForm, HasForm, InGrammar, IsPlaced, IsLine, is_comment, is_new, new_of, tree_or_fault, form_of, placed_line, line_of}
-use Rattle.script_text.proofs.FormLaws.{IsFormed, form_found, form_again, let_no_name, it_no_name, new_no_name}
+use Rattle.script_text.specs.Trees.{Call, Tree, Blank, New, Let, It, Eval, Syntax, Long, map_tree, in_pieces}
+use Rattle.script_text.specs.Lines.{IsComment, IsNew, IsForm, HasForm, InGrammar, IsPlaced, IsLine, is_comment, is_new, new_of, tree_or_fault, form_of, placed_line, line_of}
+use Rattle.script_text.proofs.FormLaws.{IsFormed, form_found, form_again, new_no_name}
 use Rattle.script_text.proofs.FrontLaws.{comment_found, comment_again, comment_lexed, new_found, new_again, new_no_comment, new_lexed}
 
 abbrev Line : Type 0

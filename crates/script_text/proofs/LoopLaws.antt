@@ -1,16 +1,11 @@
 -- The loop over the tokens behind a name.
 use Rattle.std.proofs.Common.{◌≡◌, ℕ, ◌+◌, ◌*◌, ◌<◌, ◌≤◌, Bool, true, false, cond, List, [], ◌∷◌, ◌++◌, length, Option, Some, None, refl, sym, ap, ◌∙◌, arith, append_assoc, length-append}
-use Rattle.std.specs.Prelude.{map}
 use Rattle.std.specs.Option.{option_map}
 use Rattle.std.proofs.lemmas.List.{append-nil}
 use Rattle.elem.specs.declared.lexing.Lexeme.{Lexeme}
-use Rattle.elem.specs.declared.tokens.Token.{Token}
-use Rattle.elem.specs.declared.tokens.Token.TheVariants as tokens
-use Rattle.elem.specs.declared.tokens.Sign.TheVariants.{Dot, Comma, Open, Close}
 use Rattle.elem.specs.Lexing.{lexed_from, with_first}
 use Rattle.script_text.specs.declared.lines.Slice.{Slice}
 use Rattle.script_text.specs.declared.lines.Part.{Part}
-use Rattle.script_text.specs.declared.stages.Within.{Within}
 use Rattle.script_text.specs.declared.stages.Stage.{Stage}
 use Rattle.script_text.specs.declared.stages.Stage.TheVariants.{Ended, Dotted, Called, Inside}
 use Rattle.script_text.specs.declared.stages.Turn.{Turn}
@@ -18,7 +13,7 @@ use Rattle.script_text.specs.declared.stages.Turn.TheVariants as turns
 use Rattle.script_text.specs.Trees.{Call, no_slice, part_of}
 use Rattle.script_text.specs.Stages.{depth_of, turn_of, turned, grown, Rest, reading, may_end, add_call, add_place}
 use Rattle.script_text.specs.Calls.{calls_of, calls_from, and_then, add_args, last_count, AreParts}
-use Rattle.script_text.proofs.PartLaws.{last_count-push, add_args-push, add_args-nil, add_args-twice, more_args, map-push}
+use Rattle.script_text.proofs.PartLaws.{last_count-push, add_args-push, add_args-nil, add_args-twice, map-push}
 use Rattle.script_text.proofs.StageLaws.{depth_grows, part_is_dotted}
 
 abbrev pub read_all : Stage → Slice → Option (List Lexeme) → Option Rest

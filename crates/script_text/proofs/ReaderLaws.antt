@@ -1,15 +1,15 @@
 -- What stands at the front of a line.
-use Rattle.std.proofs.Common.{◌≡◌, ℕ, Bool, true, false, cond, List, [], ◌∷◌, Option, Some, None, refl, sym, ap, ◌∙◌}
+use Rattle.std.proofs.Common.{◌≡◌, ℕ, Bool, true, false, cond, List, [], ◌∷◌, Option, Some, None, refl, sym}
 use Rattle.std.specs.Option.{option_map}
-use Rattle.std.specs.Prelude.{codes, if◌then◌else◌}
+use Rattle.std.specs.Prelude.{codes}
 use Rattle.elem.specs.declared.lexing.Lexeme.{Lexeme}
 use Rattle.elem.specs.declared.tokens.Token.{Token}
 use Rattle.elem.specs.declared.tokens.Token.TheVariants as tokens
 use Rattle.elem.specs.declared.tokens.Sign.TheVariants.{Equals}
-use Rattle.elem.specs.Lexing.{lexed_from, with_first}
+use Rattle.elem.specs.Lexing.{with_first}
 use Rattle.script_text.specs.declared.lines.Slice.{Slice}
 use Rattle.script_text.specs.Names.{same_codes, is_name}
-use Rattle.script_text.specs.Trees.{Call, Expression, Tree, Blank, Let, It, Eval, Syntax}
+use Rattle.script_text.specs.Trees.{Call, Let, It, Eval, Syntax}
 use Rattle.script_text.specs.Calls.{and_then, calls_of}
 use Rattle.script_text.specs.Lines.{Bound, expression_of, expression_at, bound_at, bound_of, tree_or_fault, line_with, line_at, form_of, NoWord, NoEquals}
 

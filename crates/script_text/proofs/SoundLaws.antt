@@ -1,5 +1,5 @@
 -- What is read behind a name is in the grammar.
-use Rattle.std.proofs.Common.{◌≡◌, ◌⊎◌, inl, inr, ℕ, zero, suc, Bool, true, false, cond, List, [], ◌∷◌, ◌++◌, Option, Some, None, refl, sym, ap, ◌∙◌, subst}
+use Rattle.std.proofs.Common.{◌≡◌, inl, inr, ℕ, zero, suc, cond, List, [], ◌∷◌, ◌++◌, Option, Some, None, refl, sym, ap, ◌∙◌}
 use Rattle.std.specs.Option.{option_map}
 use Rattle.elem.specs.declared.tokens.Token.{Token}
 use Rattle.elem.specs.declared.tokens.Token.TheVariants as tokens
@@ -15,10 +15,10 @@ use Rattle.script_text.specs.declared.stages.Stage.{Stage}
 use Rattle.script_text.specs.declared.stages.Stage.TheVariants.{Ended, Dotted, Called, Inside}
 use Rattle.script_text.specs.declared.stages.Turn.{Turn}
 use Rattle.script_text.specs.declared.stages.Turn.TheVariants as turns
-use Rattle.script_text.specs.Grammar.{Arg, arg_tokens}
+use Rattle.script_text.specs.Grammar.{arg_tokens}
 use Rattle.script_text.specs.Trees.{Call}
-use Rattle.script_text.specs.Stages.{Rest, reading, turned, turn_of, dot_turn, word_turn, called_turn, go_inside, leave, ends_argument, ends_none, step, behind, begins, first_step, named_step, same_depth, range_step, low_step, high_step, end_step, dots_step, close_any, close_round, grown, opens, may_end, add_call, add_place}
-use Rattle.script_text.specs.Calls.{IsArg, MoreArgs, SomeArgs, ArgsAre, Brackets, IsCall, CallsAre}
+use Rattle.script_text.specs.Stages.{Rest, reading, turned, turn_of, dot_turn, word_turn, called_turn, go_inside, leave, ends_argument, ends_none, step, behind, begins, first_step, named_step, same_depth, low_step, high_step, end_step, dots_step, close_any, close_round, grown, may_end, add_call, add_place}
+use Rattle.script_text.specs.Calls.{MoreArgs, SomeArgs, ArgsAre, Brackets, CallsAre}
 use Rattle.script_text.proofs.ArgLaws.{Completes, Then, Before, completes_back}
 use Rattle.std.proofs.lemmas.List.{append-nil}
 

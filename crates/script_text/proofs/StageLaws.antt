@@ -1,13 +1,10 @@
 -- What a token does to the stage.
-use Rattle.std.proofs.Common.{◌≡◌, ℕ, zero, suc, ◌+◌, ◌≤◌, List, [], ◌∷◌, Option, Some, None, refl, sym, ap, ◌∙◌, arith}
-use Rattle.std.specs.Option.{option_map}
+use Rattle.std.proofs.Common.{◌≡◌, ℕ, zero, suc, ◌+◌, ◌≤◌, List, Option, Some, None, refl, arith}
 use Rattle.elem.specs.declared.tokens.Token.{Token}
 use Rattle.elem.specs.declared.tokens.Token.TheVariants as tokens
-use Rattle.elem.specs.declared.tokens.Sign.{Sign}
-use Rattle.elem.specs.declared.tokens.Sign.TheVariants.{Lowest, Highest, Dot, Comma, Open, Close, OpenSquare, CloseSquare}
-use Rattle.elem.specs.declared.tokens.Sign.TheVariants as signs
+use Rattle.elem.specs.declared.tokens.Sign.TheVariants.{Dot, Comma, Open, Close}
 use Rattle.script_text.specs.declared.stages.Within.{Within}
-use Rattle.script_text.specs.declared.stages.Within.TheVariants.{First, Next, Named, Done, LowAny, LowElement, Dots, High, CloseAny, CloseRound}
+use Rattle.script_text.specs.declared.stages.Within.TheVariants.{First, Next, Named, Done}
 use Rattle.script_text.specs.declared.stages.Stage.{Stage}
 use Rattle.script_text.specs.declared.stages.Stage.TheVariants.{Ended, Dotted, Called, Inside}
 use Rattle.script_text.specs.declared.stages.Turn.{Turn}

@@ -1,5 +1,5 @@
 -- What is in the grammar behind a name is read.
-use Rattle.std.proofs.Common.{◌≡◌, ◌⊎◌, inl, inr, ℕ, zero, suc, Bool, true, false, List, [], ◌∷◌, ◌++◌, Option, Some, None, refl, sym, ap, ◌∙◌, append_assoc}
+use Rattle.std.proofs.Common.{◌≡◌, inl, inr, ℕ, zero, suc, Bool, true, false, List, [], ◌∷◌, ◌++◌, Option, Some, None, refl, sym, ap, ◌∙◌}
 use Rattle.std.specs.Option.{option_map}
 use Rattle.elem.specs.declared.tokens.Token.{Token}
 use Rattle.elem.specs.declared.tokens.Token.TheVariants as tokens
@@ -7,16 +7,14 @@ use Rattle.elem.specs.declared.tokens.Sign.TheVariants.{Lowest, Highest, Dot, Co
 use Rattle.elem.specs.declared.tokens.Sign.TheVariants as signs
 use Rattle.elem.specs.declared.lexing.Lexeme.{Lexeme}
 use Rattle.elem.specs.Lexing.{kinds_of}
-use Rattle.elem.specs.SpanTexts.{extent}
 use Rattle.script_text.specs.declared.lines.Slice.{Slice}
 use Rattle.script_text.specs.declared.stages.Within.{Within}
 use Rattle.script_text.specs.declared.stages.Within.TheVariants.{First, Next, Named, Done, LowAny, LowElement, Dots, High, CloseAny, CloseRound}
 use Rattle.script_text.specs.declared.stages.Stage.{Stage}
 use Rattle.script_text.specs.declared.stages.Stage.TheVariants.{Ended, Dotted, Called, Inside}
-use Rattle.script_text.specs.Grammar.{Arg, arg_tokens}
 use Rattle.script_text.specs.Trees.{Call}
-use Rattle.script_text.specs.Stages.{Rest, reading, turned, turn_of, go_inside, leave, step, behind, begins, first_step, named_step, same_depth, range_step, low_step, high_step, end_step, dots_step, close_any, close_round, grown, opens, add_call, add_place}
-use Rattle.script_text.specs.Calls.{IsArg, MoreArgs, SomeArgs, ArgsAre, Brackets, IsCall, CallsAre, and_then}
+use Rattle.script_text.specs.Stages.{reading, step, behind, begins, first_step, named_step, same_depth, low_step, high_step, end_step, dots_step, close_any, close_round, grown, opens, add_call, add_place}
+use Rattle.script_text.specs.Calls.{IsArg, MoreArgs, ArgsAre, Brackets, CallsAre, and_then}
 use Rattle.script_text.proofs.ArgLaws.{run, behind_by, is_bare, whole_run}
 use Rattle.script_text.proofs.SoundLaws.{last_from, place_from, first_of}
 

@@ -1,5 +1,5 @@
 -- What may stand next behind the name that an expression begins with, by recursion on the tokens.
-use Rattle.std.specs.Prelude.{◌≡◌, ℕ, zero, suc, Bool, true, false, List, [], ◌∷◌, Option, Some, None, if◌then◌else◌}
+use Rattle.std.specs.Prelude.{ℕ, zero, suc, Bool, true, false, List, [], ◌∷◌, Option, Some, None, if◌then◌else◌}
 use Rattle.std.specs.Option.{option_map}
 use Rattle.elem.specs.declared.tokens.Sign.TheVariants.{Lowest, Highest, Dot, Comma, Open, Close, OpenSquare, CloseSquare}
 use Rattle.elem.specs.declared.tokens.Sign.TheVariants as signs

@@ -1,7 +1,7 @@
 -- A call's reply and what it leaves of the store, as the outcome of a call on a view.
-use Rattle.std.proofs.Common.{◌≡◌, ◌≢◌, ℕ, ◌+◌, ◌<◌, ◌≤◌, ◌^◌, Bool, true, false, not, List, [], ◌∷◌, ◌++◌, length, get_or, set, Option, None, Some, Result, Ok, Err, cond, refl, sym, ◌∙◌, ap, subst, arith, zero, suc}
+use Rattle.std.proofs.Common.{◌≡◌, ◌≢◌, ℕ, ◌+◌, ◌<◌, ◌≤◌, ◌^◌, Bool, true, false, not, List, [], ◌∷◌, ◌++◌, set, Option, None, Some, Result, Ok, Err, cond, refl, sym, ◌∙◌, ap, subst, arith, zero, suc}
 use Rattle.std.specs.Prelude.{codes, if◌then◌else◌}
-use Rattle.elem.specs.Outside.{Stays, Takes, TakesFront}
+use Rattle.elem.specs.Outside.{Stays}
 use Rattle.elem.specs.declared.elements.Elem.{Elem}
 use Rattle.view_steps.specs.declared.calls.Ask.{Ask as AskWord}
 use Rattle.view_steps.specs.declared.calls.Ask.TheVariants.{Size}
@@ -14,14 +14,14 @@ use Rattle.view_steps.specs.Calls.{fits, needs_of}
 use Rattle.view_steps.specs.Steps.{lacks}
 use Rattle.view_steps.specs.Views.{Base, World, View, base_at, base_under, candidates, flags_at, shape_at, shown}
 use Rattle.base_store.specs.Edits.{Edit, edited}
-use Rattle.base_store.specs.Stored.{Stored, Place, AllThere, world_of, there, with_place}
+use Rattle.base_store.specs.Stored.{Stored, AllThere, world_of, there, with_place}
 use Rattle.base_store.proofs.PlaceLemmas.{world_written, all_written}
 use Rattle.session.specs.declared.faults.ExecFault.{ExecFault}
 use Rattle.session.specs.declared.faults.ExecFault.TheVariants.{WriteFault, NoMemory}
 use Rattle.session.specs.Calls.{edit_of, reply_of}
 use Rattle.session.specs.Environment.{Came, seen_as}
 use Rattle.session.specs.Executing.{Does, Executed}
-use Rattle.session.specs.Machine.{Outcome, after_edit, called, carried_out, refused, says, written}
+use Rattle.session.specs.Machine.{Outcome, after_edit, called, carried_out, refused, says}
 use Rattle.session.specs.Replying.{Said, Wrote}
 use Rattle.session.specs.State.{State, ChangesUpTo, written_to}
 

@@ -1,10 +1,10 @@
 -- A text by the places of its marks.
-use Rattle.std.proofs.Common.{◌≡◌, ℕ, ◌+◌, ◌<◌, ◌≤◌, ◌==◌, Bool, true, false, not, List, [], ◌∷◌, ◌++◌, length, take, drop, reverse, Option, None, Some, unwrap_or, cond, zero, suc, refl, sym, ◌∙◌, ap, subst, arith, append_assoc, nat_lt, nat_eq}
-use Rattle.std.specs.List.{position, position_or_len, slice_split, onto_first}
+use Rattle.std.proofs.Common.{◌≡◌, ℕ, ◌+◌, ◌<◌, ◌≤◌, ◌==◌, Bool, true, false, not, List, [], ◌∷◌, ◌++◌, length, take, drop, Option, None, Some, unwrap_or, cond, suc, refl, sym, ◌∙◌, ap, subst, arith, append_assoc, nat_lt}
+use Rattle.std.specs.List.{position, position_or_len, onto_first}
 use Rattle.std.proofs.lemmas.Bool.Decides.{nat_tests}
 use Rattle.std.specs.Option.{option_map, option_and_then, is_some, IfSome}
 use Rattle.elem.specs.Words.{is_word, word_of}
-use Rattle.session.specs.Lines.{cut, pieces, trimmed, elements_of, part_of, parts_of, expr_of, expr_from, name_of, Part, Tree, eval, syntax_fault}
+use Rattle.session.specs.Lines.{cut, pieces, trimmed, elements_of, parts_of, expr_of, expr_from, name_of, Part, eval, syntax_fault}
 use Rattle.session.specs.Seen.{seen, eval_line}
 use Rattle.session.specs.declared.lines.Args.TheVariants as args
 use Rattle.session.specs.declared.lines.Part.{Part as Kept}

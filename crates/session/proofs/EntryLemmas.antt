@@ -1,8 +1,7 @@
 -- A linked map's rows as the rows of a base: what is shown at a key, and what a put and a removal leave.
-use Rattle.std.proofs.Common.{◌≡◌, ℕ, ◌+◌, ◌<◌, ◌≤◌, Bool, true, false, ◌&&◌, ◌||◌, not, List, [], ◌∷◌, ◌++◌, length, map, Option, None, Some, cond, nat_eq, nat_lt, suc, refl, sym, ◌∙◌, ap, arith, length-append}
+use Rattle.std.proofs.Common.{◌≡◌, ℕ, ◌+◌, ◌<◌, Bool, true, false, ◌&&◌, ◌||◌, List, [], ◌∷◌, ◌++◌, length, Option, None, Some, cond, nat_eq, nat_lt, suc, refl, ◌∙◌, ap, arith, length-append}
 use Rattle.std.specs.Prelude.{find, fold, if◌then◌else◌}
 use Rattle.std.specs.Option.{is_some, is_none, option_map}
-use Rattle.std.specs.List.{list_any}
 use Rattle.std.proofs.lemmas.Bool.Decides.{nat_tests}
 use Rattle.std.proofs.lemmas.List.{length-map}
 use Rattle.std.proofs.lemmas.Map.{length-set_value}
@@ -11,19 +10,15 @@ use Rattle.elem.specs.Elements.{same}
 use Rattle.elem.specs.ElementLaws.{same-Decides}
 use Rattle.elem.specs.Keyed.{value_at, with_value, without}
 use Rattle.view_steps.specs.declared.items.Item.{Item}
-use Rattle.view_steps.specs.declared.items.Item.TheVariants.{One, Entry}
+use Rattle.view_steps.specs.declared.items.Item.TheVariants.{Entry}
 use Rattle.view_steps.specs.declared.kinds.Kind.TheVariants.{LinkedHashMap}
-use Rattle.view_steps.specs.declared.steps.Step.TheVariants.{Plain}
-use Rattle.view_steps.specs.declared.steps.PlainStep.TheVariants.{KeySet}
-use Rattle.view_steps.specs.Items.{key_of, value_of, same_item}
-use Rattle.view_steps.specs.Steps.{item_of}
-use Rattle.view_steps.specs.Views.{Base, Candidate, of_rows, changed}
+use Rattle.view_steps.specs.Items.{value_of}
+use Rattle.view_steps.specs.Views.{Base, Candidate, of_rows}
 use Rattle.base_store.specs.Bases.{entries, entry_of}
 use Rattle.base_store.specs.Edits.{Edit, goes, without_rows, placed, edited}
 use Rattle.base_store.specs.Stored.{with_rows}
-use Rattle.session.specs.Calls.{has_key, value_shown, is_shown, rows_or_none, removal, addition}
+use Rattle.session.specs.Calls.{has_key, value_shown, rows_or_none, removal, addition}
 use Rattle.session.specs.Entries.{put_in}
-use Rattle.session.specs.Printing.{keys}
 
 -- ---- what is shown
 

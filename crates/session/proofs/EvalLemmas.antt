@@ -1,8 +1,7 @@
 -- An expression that was followed to its end, and what was done there.
-use Rattle.std.proofs.Common.{◌≡◌, ◌≢◌, ℕ, ◌≤◌, Bool, true, false, List, [], ◌∷◌, ◌++◌, length, take, Option, None, Some, Result, Ok, Err, refl, sym, ◌∙◌, ap, subst, zero, suc}
+use Rattle.std.proofs.Common.{◌≡◌, ℕ, false, List, [], ◌∷◌, ◌++◌, length, take, Option, None, Some, Result, Ok, Err, refl, sym, ◌∙◌, ap, subst}
 use Rattle.std.specs.Prelude.{codes}
 use Rattle.std.specs.Option.{is_some}
-use Rattle.view_steps.specs.declared.calls.Call.{Call}
 use Rattle.view_steps.specs.declared.refusals.Refusal.{Refusal}
 use Rattle.view_steps.specs.Refusals.{name_of}
 use Rattle.view_steps.specs.Texts.{view_text}
@@ -14,10 +13,10 @@ use Rattle.session.specs.declared.lines.Part.{Part}
 use Rattle.session.specs.Environment.{Came, seen_as}
 use Rattle.session.specs.Executing.{Executed}
 use Rattle.session.specs.Following.{target, end_in}
-use Rattle.session.specs.Machine.{Outcome, says, reach, concluded, ended, eval_on, refused}
+use Rattle.session.specs.Machine.{Outcome, says, reach, concluded, ended, eval_on}
 use Rattle.session.specs.Replying.{Said}
 use Rattle.session.specs.State.{State}
-use Rattle.session.specs.Typing.{Typing, Ending, shows, calls, typed_words}
+use Rattle.session.specs.Typing.{Typing, Ending, shows, typed_words}
 use Rattle.session.proofs.CallLemmas.{came_said}
 
 pub take_whole : {X : Type 0} (xs : List X) → take (length xs) xs ≡ xs

@@ -1,19 +1,17 @@
 -- One word after another leads where all of them lead.
-use Rattle.std.proofs.Common.{◌≡◌, ℕ, ◌+◌, ◌<◌, ◌≤◌, Bool, true, false, List, [], ◌∷◌, ◌++◌, length, take, Option, None, Some, Result, Ok, Err, cond, nat_lt, refl, sym, ◌∙◌, ap, arith}
+use Rattle.std.proofs.Common.{◌≡◌, ◌<◌, ◌≤◌, Bool, true, false, List, ◌∷◌, Option, None, Some, Ok, Err, cond, nat_lt, refl, sym, ◌∙◌, ap, arith}
 use Rattle.std.specs.Option.{is_some, IsSome}
 use Rattle.std.proofs.lemmas.Bool.Decides.{nat_tests}
 use Rattle.view_steps.specs.declared.calls.Call.{Call}
-use Rattle.view_steps.specs.declared.refusals.Refusal.{Refusal}
 use Rattle.view_steps.specs.declared.refusals.Refusal.TheVariants.{Limit}
-use Rattle.view_steps.specs.declared.shapes.Shape.{Shape}
 use Rattle.view_steps.specs.declared.steps.Step.{Step}
 use Rattle.view_steps.specs.Views.{World, View, over, path, shape_at}
 use Rattle.session.specs.declared.lines.Part.{Part}
 use Rattle.session.specs.declared.typing.Typed.{Typed}
 use Rattle.session.specs.declared.typing.Typed.TheVariants as typed
 use Rattle.session.specs.Following.{target}
-use Rattle.session.specs.Machine.{reach, with_ending, made, step_refusal, unless}
-use Rattle.session.specs.Typing.{Typing, Ending, shows, calls, before, go_on, shape_by, typed_words, typed_word, is_empty}
+use Rattle.session.specs.Machine.{reach, with_ending, made, unless}
+use Rattle.session.specs.Typing.{Typing, calls, before, go_on, shape_by, typed_words, typed_word, is_empty}
 
 -- a step that is not refused leads on from the view that it makes
 reach_on : (world : World) (view : View) (it : Step) (t : Option Typing) → nat_lt (path view) 32 ≡ true → reach world view (before it t) ≡ reach world (over it view) t

@@ -1,25 +1,24 @@
 -- The names of an environment: what a look-up finds, and what a new base and its name leave.
-use Rattle.std.proofs.Common.{◌≡◌, ◌≢◌, ℕ, ◌+◌, ◌<◌, ◌≤◌, Bool, true, false, List, [], ◌∷◌, ◌++◌, length, map, take, Option, None, Some, Result, Ok, Err, OnOk, cond, nat_eq, refl, sym, ◌∙◌, ap, subst, arith, length-append}
+use Rattle.std.proofs.Common.{◌≡◌, ℕ, ◌+◌, ◌<◌, ◌≤◌, Bool, true, false, List, [], ◌∷◌, ◌++◌, length, take, Option, Some, Result, Ok, Err, OnOk, cond, nat_eq, refl, sym, ◌∙◌, ap, subst, arith, length-append}
 use Rattle.std.specs.Prelude.{codes}
 use Rattle.std.specs.Cmp.Lexicographic.{pointwise}
 use Rattle.std.specs.Map.{lookup}
-use Rattle.std.specs.Option.{option_map, IsSome}
+use Rattle.std.specs.Option.{option_map}
 use Rattle.std.specs.Result.{is_err, IsOk}
 use Rattle.std.proofs.lemmas.List.{length-map, map-append}
 use Rattle.indexmap.specs.IndexMap.{insert_entry}
 use Rattle.view_steps.specs.declared.kinds.Kind.{Kind}
-use Rattle.view_steps.specs.Views.{World, View, base, empty_base, base_at}
+use Rattle.view_steps.specs.Views.{World, View, base, empty_base}
 use Rattle.base_store.specs.declared.store.Made.{Made}
 use Rattle.base_store.specs.declared.store.Made.TheVariants as made
 use Rattle.base_store.specs.Nodes.{view_at}
-use Rattle.base_store.specs.Stored.{Stored, Place, AllThere, world_of, base_in, there, with_base, view_in}
+use Rattle.base_store.specs.Stored.{Stored, AllThere, world_of, base_in, there, with_base}
 use Rattle.base_store.proofs.NodeLemmas.{added_base}
 use Rattle.base_store.proofs.ViewLemmas.{view_at-append}
 use Rattle.session.specs.declared.faults.ExecFault.{ExecFault}
-use Rattle.session.specs.declared.faults.ExecFault.TheVariants.{WriteFault, NoMemory}
 use Rattle.session.specs.Environment.{named, seen_as, NamesWithin, IsSettled}
-use Rattle.session.specs.Executing.{Does, Executed}
-use Rattle.session.specs.Machine.{Outcome, says}
+use Rattle.session.specs.Executing.{Executed}
+use Rattle.session.specs.Machine.{says}
 use Rattle.session.specs.Replying.{Said}
 use Rattle.session.specs.State.{State, bound, ChangesUpTo, view_named}
 use Rattle.session.proofs.CallLemmas.{calm_on, does_said}

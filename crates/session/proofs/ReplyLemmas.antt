@@ -1,10 +1,9 @@
 -- Pieces of a reply, one after another.
-use Rattle.std.proofs.Common.{◌≡◌, ℕ, ◌+◌, ◌-◌, ◌^◌, ◌≤◌, min, Bool, true, false, List, [], ◌∷◌, ◌++◌, Option, None, Some, Result, Ok, Err, refl, sym, ◌∙◌, ap, subst, arith, append_assoc}
+use Rattle.std.proofs.Common.{◌≡◌, ℕ, ◌≤◌, Bool, true, false, List, [], ◌++◌, Option, None, Some, Result, refl, sym, ◌∙◌, ap, subst, arith, append_assoc}
 use Rattle.std.proofs.lemmas.List.{append-nil}
-use Rattle.elem.specs.Outside.{Takes, TakesFront, IsFront, Rose}
-use Rattle.session.specs.Replying.{Pending, Goes, Sends, Said, Wrote, nothing_pending, with_piece, flushed, sent_result}
+use Rattle.elem.specs.Outside.{Takes, Rose}
+use Rattle.session.specs.Replying.{Pending, Goes, Sends, Said, nothing_pending, with_piece, flushed, sent_result}
 use Rattle.session.specs.declared.faults.ExecFault.{ExecFault}
-use Rattle.session.specs.declared.faults.ExecFault.TheVariants.{WriteFault, NoMemory}
 
 pub takes_none : (t : Option (List ℕ)) → Takes t t []
 takes_none None = tt

@@ -1,13 +1,13 @@
 -- The outcomes of lines, as the plain machine has them.
-use Rattle.std.proofs.Common.{◌≡◌, ℕ, ◌+◌, ◌<◌, ◌≤◌, Bool, true, false, List, [], ◌∷◌, ◌++◌, length, Option, None, Some, Result, Ok, Err, refl, sym, ◌∙◌, ap, subst, arith}
+use Rattle.std.proofs.Common.{◌≡◌, ℕ, List, Option, None, Some, Result, Ok, Err, refl, sym, ◌∙◌, ap, subst, arith}
 use Rattle.std.specs.Prelude.{codes}
 use Rattle.std.specs.Map.{lookup}
 use Rattle.std.specs.Option.{option_map}
 use Rattle.view_steps.specs.Kinds.{kind_named}
-use Rattle.view_steps.specs.Views.{World, View}
+use Rattle.view_steps.specs.Views.{View}
 use Rattle.base_store.specs.declared.store.Made.{Made}
 use Rattle.base_store.specs.Nodes.{view_at}
-use Rattle.base_store.specs.Stored.{Stored, world_of, view_in}
+use Rattle.base_store.specs.Stored.{Stored, view_in}
 use Rattle.session.specs.Arguments.{kept_parts}
 use Rattle.session.specs.declared.faults.ExecFault.{ExecFault}
 use Rattle.session.specs.declared.faults.ExecFault.TheVariants.{NoMemory}

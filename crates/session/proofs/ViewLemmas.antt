@@ -1,5 +1,5 @@
 -- What the views of maps show: a base its entries, and any steps over it its keys.
-use Rattle.std.proofs.Common.{◌≡◌, ℕ, ◌+◌, Bool, true, false, List, [], ◌∷◌, length, map, Option, None, Some, cond, ◌⊎◌, inl, inr, refl, sym, ◌∙◌, ap, subst}
+use Rattle.std.proofs.Common.{◌≡◌, ℕ, ◌+◌, Bool, true, false, List, [], ◌∷◌, length, map, Some, cond, ◌⊎◌, inl, inr, refl, sym, ◌∙◌, ap}
 use Rattle.std.specs.Prelude.{filter, find, ◌&&◌, ◌||◌}
 use Rattle.std.specs.Option.{is_some, option_map}
 use Rattle.std.proofs.lemmas.List.{length-map}
@@ -8,7 +8,7 @@ use Rattle.elem.specs.Elements.{same}
 use Rattle.elem.specs.Keyed.{value_at}
 use Rattle.base_store.specs.Bases.{entries, entry_of}
 use Rattle.view_steps.specs.declared.items.Item.{Item}
-use Rattle.view_steps.specs.declared.items.Item.TheVariants.{One, Entry}
+use Rattle.view_steps.specs.declared.items.Item.TheVariants.{One}
 use Rattle.view_steps.specs.declared.kinds.Kind.{Kind}
 use Rattle.view_steps.specs.declared.kinds.Kind.TheVariants.{LinkedHashMap}
 use Rattle.view_steps.specs.declared.shapes.Shape.{Shape}
@@ -20,7 +20,7 @@ use Rattle.view_steps.specs.Calls.{is_set, is_map}
 use Rattle.view_steps.specs.Items.{key_of, value_of, same_item}
 use Rattle.view_steps.specs.Kinds.{shape_of_kind}
 use Rattle.view_steps.specs.Steps.{apply, item_of, lacks}
-use Rattle.view_steps.specs.Views.{Base, World, View, base, over, Candidate, of_rows, changed, with_item, candidates, shown, item_in, is_seen, base_at, base_under, shape_after, shape_at, flags_at}
+use Rattle.view_steps.specs.Views.{World, View, base, over, Candidate, of_rows, changed, with_item, candidates, shown, item_in, is_seen, base_at, base_under, shape_after, shape_at, flags_at}
 use Rattle.session.specs.Calls.{has_key, value_shown, is_shown, rows_or_none, removal}
 use Rattle.session.specs.Printing.{keys, items_of}
 use Rattle.session.proofs.EntryLemmas.{value_shown-entries}

@@ -1,5 +1,5 @@
 -- Where the words of an expression lead.
-use Rattle.std.specs.Prelude.{◌≡◌, ◌≢◌, ℕ, ◌+◌, ◌<◌, ◌≤◌, List, length, Option, Some, Result, Ok, Err}
+use Rattle.std.specs.Prelude.{◌≡◌, ◌≢◌, ℕ, ◌+◌, ◌<◌, ◌≤◌, List, length, Option, Result, Ok, Err}
 use Rattle.base_store.specs.Stored.{Stored, world_of, view_in, without_temporary}
 use Rattle.session.specs.Machine.{reach}
 use Rattle.session.specs.Typing.{Ending, shows, calls, typed_words}

@@ -1,11 +1,11 @@
 -- The grammar of a line. `read` gives the line's tree.
-use Rattle.std.specs.Prelude.{ℕ, Bool, true, false, not, ◌==◌, ◌&&◌, ◌||◌, nat_lt, nat_eq, List, [], ◌∷◌, reverse, length, Option, None, Some, unwrap_or, codes, if◌then◌else◌}
+use Rattle.std.specs.Prelude.{ℕ, Bool, not, ◌==◌, ◌&&◌, ◌||◌, nat_lt, nat_eq, List, [], ◌∷◌, reverse, length, Option, None, Some, unwrap_or, codes, if◌then◌else◌}
 use Rattle.std.specs.List.{slice_split, list_any}
 use Rattle.std.specs.Option.{option_map, option_and_then}
 use Rattle.std.specs.Cmp.Lexicographic.{pointwise}
 use Rattle.elem.specs.declared.elements.Elem.{Elem}
 use Rattle.elem.specs.Spelling.{elem_of}
-use Rattle.elem.specs.Words.{is_word, word_of}
+use Rattle.elem.specs.Words.{word_of}
 
 -- a word of an expression, with its arguments
 pub record Part : Type 0 where

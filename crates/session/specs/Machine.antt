@@ -1,5 +1,5 @@
 -- One line: its reply, and the state after it.
-use Rattle.std.specs.Prelude.{ℕ, Bool, true, false, not, nat_lt, List, [], ◌∷◌, ◌++◌, length, Option, None, Some, Result, Ok, Err, codes, if◌then◌else◌}
+use Rattle.std.specs.Prelude.{ℕ, not, nat_lt, List, [], ◌∷◌, ◌++◌, length, Option, None, Some, Result, Ok, Err, codes, if◌then◌else◌}
 use Rattle.view_steps.specs.declared.calls.Call.{Call}
 use Rattle.view_steps.specs.declared.kinds.Kind.{Kind}
 use Rattle.view_steps.specs.declared.refusals.Refusal.{Refusal}

@@ -1,5 +1,5 @@
 -- The state of the plain machine: the bases, and the names with the views that they stand for.
-use Rattle.std.specs.Prelude.{ℕ, ◌+◌, ◌≤◌, List, [], ◌∷◌, Option, nat_eq, slice_set, if◌then◌else◌}
+use Rattle.std.specs.Prelude.{ℕ, ◌≤◌, List, [], ◌∷◌, Option, nat_eq, slice_set, if◌then◌else◌}
 use Rattle.std.specs.Cmp.Lexicographic.{pointwise}
 use Rattle.std.specs.Map.{lookup}
 use Rattle.view_steps.specs.Views.{World, View, base_at, base_under}

@@ -1,5 +1,5 @@
 -- The typing of the words behind a name, from left to right: steps, and then a view or a call, or the first fault.
-use Rattle.std.specs.Prelude.{ℕ, Bool, true, false, List, [], ◌∷◌, Option, None, Some, Result, Ok, Err, if◌then◌else◌}
+use Rattle.std.specs.Prelude.{ℕ, Bool, true, false, List, [], ◌∷◌, Option, None, Some, if◌then◌else◌}
 use Rattle.view_steps.specs.declared.calls.Call.{Call}
 use Rattle.view_steps.specs.declared.calls.Call.TheVariants as call
 use Rattle.view_steps.specs.declared.calls.CallForm.{CallForm}

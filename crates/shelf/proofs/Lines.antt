@@ -1,15 +1,15 @@
 -- The replies to a script, as its bytes come one by one.
-use Rattle.std.proofs.Common.{◌≡◌, ℕ, ◌+◌, ◌<◌, ◌≤◌, ◌==◌, Bool, true, false, List, [], ◌∷◌, ◌++◌, length, take, cond, min, nat_lt, refl, sym, ◌∙◌, ap, subst, arith, append_assoc, length-append, inl, inr, ◌⊎◌, zero, suc, get_or, drop}
+use Rattle.std.proofs.Common.{◌≡◌, ℕ, ◌+◌, ◌<◌, ◌≤◌, ◌==◌, Bool, true, false, List, [], ◌∷◌, ◌++◌, length, take, cond, min, refl, sym, ◌∙◌, ap, subst, arith, append_assoc, inl, inr, ◌⊎◌, zero, suc, get_or, drop}
 use Rattle.std.specs.List.{onto_first}
-use Rattle.std.proofs.lemmas.List.{append-nil, take_all, take-append-le, length-take}
+use Rattle.std.proofs.lemmas.List.{append-nil, take_all, length-take}
 use Rattle.std.proofs.lemmas.Bool.Decides.{nat_tests, leb_tells}
 use borrow.Author.Tests.{lt-ltb}
 use Rattle.session.specs.State.{State, empty}
 use Rattle.session.specs.Machine.{step, step_of}
-use Rattle.session.specs.Lines.{Tree, read, long, form_of, trimmed}
+use Rattle.session.specs.Lines.{read, long, form_of, trimmed}
 use Rattle.session.specs.Machine.{written}
 use Rattle.shelf.specs.Transcript.{lines_of, replies, transcript, before_lines, whole_lines}
-use Rattle.shelf.specs.Feed.{IsOneLine, kept, last_reply, no_reply, replies_with, replies_on, whole_replies_on}
+use Rattle.shelf.specs.Feed.{IsOneLine, kept, replies_with, replies_on, whole_replies_on}
 
 one_more : (line : List ℕ) (b : ℕ) → IsOneLine line → b == 10 ≡ false → IsOneLine (line ++ b ∷ [])
 one_more [] b h e = (e, tt)

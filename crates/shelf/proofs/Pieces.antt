@@ -1,7 +1,7 @@
 -- Pieces of a script, one after another.
-use Rattle.std.proofs.Common.{◌≡◌, ℕ, ◌==◌, ◌+◌, ◌≤◌, Bool, false, List, [], ◌∷◌, ◌++◌, length, Option, None, Some, Result, Ok, Err, OnOk, OnErr, cond, refl, sym, ◌∙◌, ap, subst, append_assoc, arith, length-append}
+use Rattle.std.proofs.Common.{◌≡◌, ℕ, ◌+◌, ◌≤◌, Bool, List, [], ◌∷◌, ◌++◌, length, Option, None, Some, Result, Ok, Err, OnOk, OnErr, cond, refl, sym, ◌∙◌, ap, subst, append_assoc, arith, length-append}
 use Rattle.std.proofs.lemmas.List.{append-nil, take_all}
-use Rattle.elem.specs.Outside.{Takes, TakesFront, Stays, IsFront}
+use Rattle.elem.specs.Outside.{Takes, Stays}
 use Rattle.view_steps.specs.Views.{Base}
 use Rattle.session.specs.State.{State, ChangesUpTo}
 use Rattle.session.specs.Machine.{step, step_of}

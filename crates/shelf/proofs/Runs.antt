@@ -1,18 +1,16 @@
 -- How a run goes on, and how it ends.
-use Rattle.std.proofs.Common.{◌≡◌, ℕ, ◌+◌, ◌^◌, ◌<◌, ◌≤◌, ◌↔◌, Bool, true, false, List, [], ◌∷◌, ◌++◌, length, take, Option, None, Some, Result, Ok, Err, OnOk, OnErr, refl, sym, ◌∙◌, ap, subst, append_assoc, length-append, arith, inl, inr}
+use Rattle.std.proofs.Common.{◌≡◌, ℕ, ◌+◌, ◌^◌, ◌<◌, ◌≤◌, ◌↔◌, false, List, [], ◌++◌, length, take, Option, None, Some, Result, Ok, Err, OnOk, refl, sym, ◌∙◌, ap, subst, append_assoc, length-append, arith, inl, inr}
 use Rattle.std.specs.Result.{is_err}
 use Rattle.std.proofs.lemmas.Bool.Decides.{leb_tells}
 use Rattle.std.proofs.lemmas.List.{append-nil, take-append-le, take_all}
 use Rattle.elem.specs.Outside.{Takes, TakesFront, Stays, Gives, IsToldEmpty, IsFront}
 use Rattle.session.specs.State.{State, empty}
-use Rattle.session.specs.Machine.{step}
-use Rattle.session.specs.Machine.{written}
 use Rattle.shelf.specs.Transcript.{transcript, whole_lines}
 use Rattle.session.specs.Replying.{Wrote}
 use Rattle.session.specs.declared.faults.ExecFault.{ExecFault}
 use Rattle.session.specs.declared.faults.ExecFault.TheVariants as faults
 use Rattle.shelf.specs.declared.status.Status.{Status}
-use Rattle.shelf.specs.declared.status.Status.TheVariants.{Done, Usage, ReadFault, WriteFault, NoMemory, TooLong}
+use Rattle.shelf.specs.declared.status.Status.TheVariants.{Done, ReadFault, NoMemory, TooLong}
 use Rattle.shelf.specs.Feed.{Fed, FedFront, FedWhole, Coming, replies_on, last_reply}
 use Rattle.shelf.specs.Headline.{Ran, fault_status}
 use Rattle.session.proofs.ReplyLemmas.{takes_more}

@@ -1,12 +1,12 @@
 -- What a run of a script leaves.
-use Rattle.std.specs.Prelude.{◌≡◌, ℕ, ◌+◌, ◌-◌, ◌^◌, ◌<◌, ◌≤◌, ◌↔◌, List, [], ◌∷◌, ◌++◌, length, take, Option, None, Some, codes}
-use Rattle.elem.specs.Outside.{Takes, TakesFront, Rose}
+use Rattle.std.specs.Prelude.{◌≡◌, ℕ, ◌^◌, ◌<◌, ◌↔◌, List, [], ◌∷◌, ◌++◌, length, take, Option, codes}
+use Rattle.elem.specs.Outside.{Takes, TakesFront}
 use Rattle.shelf.specs.Transcript.{transcript, whole_lines}
 use Rattle.std.specs.Prelude.{Result, Ok, Err}
 use Rattle.session.specs.declared.faults.ExecFault.{ExecFault}
 use Rattle.session.specs.declared.faults.ExecFault.TheVariants as faults
 use Rattle.shelf.specs.declared.status.Status.{Status}
-use Rattle.shelf.specs.declared.status.Status.TheVariants.{Done, Usage, ReadFault, WriteFault, NoMemory, TooLong}
+use Rattle.shelf.specs.declared.status.Status.TheVariants.{Done, ReadFault, WriteFault, NoMemory, TooLong}
 
 -- the greatest number of bytes of a script
 abbrev pub most_bytes : ℕ

@@ -1,5 +1,5 @@
 -- The table of steps: the family of each, what it makes of an item, the shape that it gives, and what it allows.
-use Rattle.std.specs.Prelude.{Bool, true, false, not, Option, None, Some}
+use Rattle.std.specs.Prelude.{Bool, false, not, Option, None, Some}
 use Rattle.view_steps.specs.declared.items.Item.{Item}
 use Rattle.view_steps.specs.declared.items.Item.TheVariants.{One}
 use Rattle.view_steps.specs.declared.shapes.Shape.{Shape}

@@ -1,5 +1,5 @@
 -- The table of words: what a word with so many arguments does on a view of a sort.
-use Rattle.std.specs.Prelude.{ℕ, Bool, ◌&&◌, ◌==◌, nat_eq, List, [], ◌∷◌, Option, None, Some, if◌then◌else◌, map}
+use Rattle.std.specs.Prelude.{ℕ, ◌&&◌, ◌==◌, nat_eq, List, [], ◌∷◌, Option, None, Some, if◌then◌else◌, map}
 use Rattle.std.specs.Cmp.Lexicographic.{pointwise}
 use Rattle.view_steps.specs.declared.calls.CallForm.TheVariants as call
 use Rattle.view_steps.specs.declared.shapes.Sort.{Sort}

@@ -1,7 +1,4 @@
-use Rattle.std.proofs.Common.{rules, FitsSigned, ◌≡◌, ℕ, ℤ, Some, None, Option, List, Ok, Result, refl, sym, ◌∙◌, ap, subst}
-use Rattle.std.specs.Fmt.{signed_decimal}
-use Rattle.std.specs.Int.{w64}
-use Rattle.elem.specs.Spelling.{number_of}
+use Rattle.std.proofs.Common.{sym, ◌∙◌}
 use Rattle.elem.proofs.Numbers.{no_number, spelled_parses, spelled_utf8, not_text, was_text, was_ok, not_ok, prints_back, prints_other}
 use Rattle.elem.proofs.spelling.read_number.Goals as goal
 

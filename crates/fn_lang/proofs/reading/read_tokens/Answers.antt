@@ -1,4 +1,4 @@
-use Rattle.std.proofs.Common.{◌≡◌, true, false, sym, ap, ◌∙◌, arith, List, [], ◌∷◌, ◌++◌}
+use Rattle.std.proofs.Common.{◌≡◌, false, sym, ap, ◌∙◌, arith, List, [], ◌∷◌, ◌++◌}
 use Rattle.fn_lang.specs.declared.steps.Want.{Want}
 use Rattle.fn_lang.specs.declared.steps.Want.TheVariants as wants
 use Rattle.std.specs.Prelude.{◌&&◌}

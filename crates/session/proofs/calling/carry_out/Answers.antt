@@ -1,5 +1,5 @@
 use Rattle.base_store.specs.Stored.{view_in}
-use Rattle.session.proofs.CallLemmas.{came_size, came_of, came_put}
+use Rattle.session.proofs.CallLemmas.{came_size, came_put}
 use Rattle.session.proofs.calling.carry_out.Goals as goal
 
 pub returns-in-Ask-Size : goal.returns-in-Ask-Size

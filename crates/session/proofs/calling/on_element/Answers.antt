@@ -1,7 +1,7 @@
 use Rattle.std.proofs.Common.{◌≡◌, true, false, refl, sym, ◌∙◌, ap}
 use Rattle.base_store.specs.Stored.{world_of, view_in}
 use Rattle.view_steps.specs.declared.calls.OnElement.{OnElement}
-use Rattle.view_steps.specs.declared.calls.OnElement.TheVariants.{Contains, Add, Remove, ValueOf, RemoveKey}
+use Rattle.view_steps.specs.declared.calls.OnElement.TheVariants.{Contains, Remove, ValueOf, RemoveKey}
 use Rattle.view_steps.specs.declared.calls.Call.TheVariants.{Element}
 use Rattle.view_steps.specs.Calls.{fits, needs_of}
 use Rattle.view_steps.specs.Steps.{lacks}

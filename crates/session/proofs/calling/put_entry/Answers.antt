@@ -1,4 +1,4 @@
-use Rattle.std.proofs.Common.{List, Some, ◌≡◌, refl, sym, ◌∙◌, ap}
+use Rattle.std.proofs.Common.{refl, sym, ◌∙◌, ap}
 use Rattle.base_store.specs.Stored.{world_of, view_in}
 use Rattle.view_steps.specs.declared.calls.OnPair.TheVariants.{Put}
 use Rattle.view_steps.specs.declared.calls.Call.TheVariants.{Pair}

@@ -1,6 +1,5 @@
-use Rattle.std.proofs.Common.{Bool, List, Option, Some, ◌≡◌, sym, ◌∙◌, ap}
+use Rattle.std.proofs.Common.{Some, sym, ◌∙◌, ap}
 use Rattle.std.specs.Option.{is_some}
-use Rattle.base_store.specs.Edits.{Edit}
 use Rattle.base_store.specs.Stored.{world_of, view_in}
 use Rattle.view_steps.specs.declared.calls.OnElement.TheVariants.{Remove}
 use Rattle.view_steps.specs.declared.calls.Call.TheVariants.{Element}

@@ -1,4 +1,4 @@
-use Rattle.std.proofs.Common.{Ok, Err, sym, ap}
+use Rattle.std.proofs.Common.{Ok, sym, ap}
 use Rattle.session.specs.declared.following.End.TheVariants.{View, Call}
 use Rattle.session.specs.Following.{end_in}
 use Rattle.session.proofs.EvalLemmas.{came_shown, came_to}

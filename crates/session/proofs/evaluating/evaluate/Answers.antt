@@ -1,6 +1,6 @@
-use Rattle.std.proofs.Common.{List, ◌≡◌, sym, ◌∙◌, ap}
+use Rattle.std.proofs.Common.{sym, ◌∙◌, ap}
 use Rattle.std.specs.Option.{is_some}
-use Rattle.base_store.specs.Stored.{world_of, view_in}
+use Rattle.base_store.specs.Stored.{view_in}
 use Rattle.session.specs.Typing.{typed_words}
 use Rattle.session.proofs.EvalLemmas.{came_untyped, came_back}
 use Rattle.session.proofs.evaluating.evaluate.Goals as goal

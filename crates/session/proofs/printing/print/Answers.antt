@@ -1,4 +1,4 @@
-use Rattle.std.proofs.Common.{◌≡◌, ℕ, ◌++◌, ◌∷◌, [], List, map, sym, ◌∙◌, ap}
+use Rattle.std.proofs.Common.{◌≡◌, ◌++◌, ◌∷◌, [], map, sym, ◌∙◌, ap}
 use Rattle.view_steps.specs.declared.shapes.Shape.{Shape}
 use Rattle.view_steps.specs.Texts as text
 use Rattle.base_store.specs.Stored.{world_of, view_in}

@@ -1,4 +1,4 @@
-use Rattle.std.proofs.Common.{◌≡◌, ℕ, ◌++◌, List, Some, sym, ◌∙◌, ap}
+use Rattle.std.proofs.Common.{◌++◌, sym, ◌∙◌, ap}
 use Rattle.elem.specs.Spelling.{spelling}
 use Rattle.session.specs.Printing.{value_text, item_of_key}
 use Rattle.session.proofs.ReplyLemmas.{goes_more, goes_text}

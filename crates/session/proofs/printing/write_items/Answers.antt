@@ -1,4 +1,4 @@
-use Rattle.std.proofs.Common.{◌≡◌, ℕ, ◌+◌, List, Option, None, sym, ◌∙◌, ap, arith}
+use Rattle.std.proofs.Common.{ℕ, List, sym, ◌∙◌, ap, arith}
 use Rattle.view_steps.specs.Texts.{listed}
 use Rattle.session.proofs.PrintLemmas.{first_key-drop, key_present, next_key, more_said, no_key, all_said}
 use Rattle.session.proofs.ReplyLemmas.{goes_none, goes_more, goes_text}

@@ -1,4 +1,4 @@
-use Rattle.std.proofs.Common.{◌≤◌, ◌^◌, ◌+◌, length, sym, arith}
+use Rattle.std.proofs.Common.{◌^◌, ◌+◌, length, sym, arith}
 use Rattle.std.proofs.lemmas.Result.{on_err_weaker}
 use Rattle.shelf.proofs.Pieces.{changes_within, ends_piece, goes_on, stops_front, stops_whole, weaker}
 use Rattle.shelf.proofs.Runs.{ok_part}

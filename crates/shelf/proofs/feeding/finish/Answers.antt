@@ -1,11 +1,11 @@
-use Rattle.std.proofs.Common.{◌≡◌, ℕ, List, [], ◌∷◌, ◌++◌, Option, None, Some, Result, true, false, refl, sym, ◌∙◌, ap, subst}
+use Rattle.std.proofs.Common.{◌≡◌, ℕ, List, [], ◌∷◌, Option, None, Some, true, false, refl, sym, ◌∙◌, ap, subst}
 use Rattle.std.proofs.lemmas.List.{append-nil}
 use Rattle.elem.specs.Outside.{Takes}
 use Rattle.session.specs.State.{State}
 use Rattle.session.specs.Machine.{step}
 use Rattle.session.specs.Machine.{written}
 use Rattle.session.specs.Replying.{Wrote}
-use Rattle.shelf.specs.Feed.{replies_with, replies_on, last_reply}
+use Rattle.shelf.specs.Feed.{replies_with, replies_on}
 use Rattle.shelf.proofs.feeding.finish.Goals as goal
 
 none_left : (s : State) (line : List ℕ) (told : Option (List ℕ)) → line ≡ [] → Takes told told (replies_on s line [])

@@ -1,4 +1,4 @@
-use Rattle.std.proofs.Common.{◌≡◌, ℕ, ◌+◌, ◌-◌, ◌^◌, ◌≤◌, List, length, Some}
+use Rattle.std.proofs.Common.{◌≡◌, ℕ, ◌+◌, ◌-◌, ◌^◌, ◌≤◌, List, Some}
 use Rattle.session.specs.State.{ChangesUpTo}
 use Rattle.shelf.specs.Feed.{Coming}
 use Rattle.shelf.proofs.top.run_script.Given as goal

@@ -1,4 +1,4 @@
-use Rattle.std.proofs.Common.{refl, sym, ◌∙◌, ap, arith, length}
+use Rattle.std.proofs.Common.{refl}
 use Rattle.base_store.proofs.NodeLemmas.{built_more, all_more}
 use Rattle.base_store.proofs.store.Store.new_base.Goals as goal
 

@@ -1,5 +1,4 @@
-use Rattle.std.proofs.Common.{◌≡◌, ◌<◌, ◌++◌, ◌∷◌, [], length, sym, ◌∙◌, ap, append_assoc}
-use Rattle.base_store.specs.Nodes.{view_at}
+use Rattle.std.proofs.Common.{◌∷◌, [], ◌∙◌, append_assoc}
 use Rattle.base_store.specs.declared.store.Made.TheVariants.{Over}
 use Rattle.base_store.proofs.NodeLemmas.{added_step}
 use Rattle.base_store.proofs.store.Store.new_view.Goals as goal

@@ -1,4 +1,3 @@
-use Rattle.std.proofs.Common.{sym, ◌∙◌, ap}
 use Rattle.base_store.proofs.NodeLemmas.{base_node, step_node}
 use Rattle.base_store.proofs.store.Store.node.Goals as goal
 

@@ -1,8 +1,6 @@
-use Rattle.std.proofs.Common.{◌≡◌, sym, ◌∙◌, ap, Some, List, ℕ, map, Option, [], subst}
+use Rattle.std.proofs.Common.{◌≡◌, sym, Some, List, ℕ, Option, [], subst}
 use Rattle.elem.proofs.MemoryLemmas.{found_file}
 use Rattle.elem.specs.Outside.{Gives}
-use Rattle.elem.specs.Memory.{bytes_named}
-use Rattle.elem.specs.MemoryFiles.{named, bytes_at}
 use Rattle.elem.proofs.memory.MemInputsInputs.by_name.Goals as goal
 
 gives : (told : Option (List ℕ)) (left : List ℕ) → told ≡ Some left → Gives told (Some left) []

@@ -1,4 +1,4 @@
-use Rattle.std.proofs.Common.{◌≡◌, ◌≤◌, ℕ, length, drop, take, sym, ◌∙◌, ap, arith, length-drop}
+use Rattle.std.proofs.Common.{◌≤◌, length, take, ◌∙◌, ap, arith}
 use Rattle.elem.proofs.MemoryLemmas.{given}
 use Rattle.elem.proofs.memory.MemInputsInputs.read.Goals as goal
 

@@ -1,4 +1,3 @@
-use Rattle.std.proofs.Common.{sym, ◌∙◌, ap, take}
 use Rattle.elem.proofs.MemoryLemmas.{part_taken}
 use Rattle.elem.proofs.memory.MemSinkSink.put.Goals as goal
 

@@ -1,5 +1,5 @@
-use Rattle.std.proofs.Common.{rules, ◌≡◌, ◌≤◌, true, [], ◌∷◌, refl, ℕ, List, arith}
-use Rattle.elem.specs.Words.{is_word, starts_word, IsPacked}
+use Rattle.std.proofs.Common.{refl, arith}
+use Rattle.elem.specs.Words.{is_word, starts_word}
 use Rattle.elem.proofs.words.WordDefault.default.Goals as goal
 
 pub invariant_of-result : goal.invariant_of-result

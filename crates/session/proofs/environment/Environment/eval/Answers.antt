@@ -1,7 +1,6 @@
-use Rattle.std.proofs.Common.{◌≡◌, ◌<◌, ℕ, None, Some, refl, sym, ◌∙◌, ap, subst}
+use Rattle.std.proofs.Common.{◌<◌, ℕ, refl, sym, ◌∙◌, ap, subst}
 use Rattle.std.specs.Option.{option_copied}
 use Rattle.std.specs.Prelude.{codes}
-use Rattle.session.specs.Environment.{named, seen_as}
 use Rattle.session.specs.Machine.{says, eval_of}
 use Rattle.session.specs.State.{State, view_named}
 use Rattle.session.proofs.NameLemmas.{executed_said, found_within}

@@ -1,10 +1,9 @@
-use Rattle.std.proofs.Common.{◌≡◌, ℕ, Some, None, sym, ◌∙◌, ap}
+use Rattle.std.proofs.Common.{Some, sym, ◌∙◌, ap}
 use Rattle.std.specs.Option.{option_map, option_and_then}
 use Rattle.elem.specs.Spelling.{elem_of}
-use Rattle.session.specs.Lines.{elements_of, pieces, trimmed, parts_of, part_of, name_of}
+use Rattle.session.specs.Lines.{elements_of, pieces}
 use Rattle.session.specs.Arguments.{counted}
 use Rattle.session.specs.declared.lines.Args.TheVariants as args
-use Rattle.session.specs.Arguments.{kept_part}
 use Rattle.session.specs.Arguments.{args_before}
 use Rattle.session.proofs.Cuts.{elements_one, elements_more}
 use Rattle.session.proofs.lines.reading.+read_elements.Goals as goal

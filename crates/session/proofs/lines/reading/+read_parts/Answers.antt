@@ -1,4 +1,4 @@
-use Rattle.std.proofs.Common.{◌≡◌, ℕ, Some, None, sym, ◌∙◌, ap}
+use Rattle.std.proofs.Common.{sym, ◌∙◌, ap}
 use Rattle.std.specs.Option.{is_some}
 use Rattle.session.proofs.Cuts.{parts_at, parts_bare, one_some, one_kept, more_none, more_some, more_kept, more_failed}
 use Rattle.session.proofs.lines.reading.+read_parts.Goals as goal

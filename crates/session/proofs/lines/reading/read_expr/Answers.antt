@@ -1,4 +1,4 @@
-use Rattle.std.proofs.Common.{◌≡◌, ◌++◌, ℕ, List, Option, [], Some, None, sym, ◌∙◌, ap}
+use Rattle.std.proofs.Common.{◌≡◌, ◌++◌, [], Some, sym, ◌∙◌, ap}
 use Rattle.std.specs.Option.{is_some}
 use Rattle.session.specs.Arguments.{kept_parts}
 use Rattle.session.specs.Lines.{name_of, parts_of, pieces}

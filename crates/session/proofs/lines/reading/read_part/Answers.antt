@@ -1,4 +1,4 @@
-use Rattle.std.proofs.Common.{◌≡◌, sym, ◌∙◌, ap}
+use Rattle.std.proofs.Common.{sym, ◌∙◌, ap}
 use Rattle.elem.specs.Words.{word_of}
 use Rattle.session.proofs.Cuts.{trimmed_some}
 use Rattle.session.proofs.lines.reading.read_part.Goals as goal

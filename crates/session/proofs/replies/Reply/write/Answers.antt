@@ -1,5 +1,5 @@
-use Rattle.std.proofs.Common.{◌≡◌, [], sym, ◌∙◌, ap, subst}
-use Rattle.session.specs.Replying.{Pending, Goes}
+use Rattle.std.proofs.Common.{◌≡◌, [], ◌∙◌, ap}
+use Rattle.session.specs.Replying.{Pending}
 use Rattle.session.proofs.ReplyLemmas.{goes_more, goes_sent}
 use Rattle.session.proofs.replies.Reply.write.Goals as goal
 

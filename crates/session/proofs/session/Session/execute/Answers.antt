@@ -1,9 +1,8 @@
-use Rattle.std.proofs.Common.{◌≡◌, None, refl, sym, ◌∙◌, ap}
+use Rattle.std.proofs.Common.{None, refl, ◌∙◌}
 use Rattle.std.specs.Prelude.{codes}
 use Rattle.session.specs.Lines.{read}
-use Rattle.session.specs.Machine.{says, new_of, eval_of, step}
+use Rattle.session.specs.Machine.{says, new_of, eval_of}
 use Rattle.session.specs.State.{view_named}
-use Rattle.session.specs.Seen.{seen}
 use Rattle.view_steps.specs.Kinds.{kind_named}
 use Rattle.session.proofs.NameLemmas.{executed_said}
 use Rattle.session.proofs.SessionLemmas.{executed_blank, executed_from, on_blank, on_long, on_syntax, on_new, on_eval}
