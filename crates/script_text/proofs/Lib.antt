@@ -8,3 +8,4 @@ pub mod WholeLaws
 pub mod FormLaws
 pub mod FrontLaws
 pub mod LineLaws
+pub mod PartTexts

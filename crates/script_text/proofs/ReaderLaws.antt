@@ -1,7 +1,7 @@
 -- What stands at the front of a line.
 use Rattle.std.proofs.Common.{◌≡◌, ℕ, Bool, true, false, cond, List, [], ◌∷◌, Option, Some, None, refl, sym}
 use Rattle.std.specs.Option.{option_map}
-use Rattle.std.specs.Prelude.{codes}
+use Rattle.std.specs.Prelude.{codes, MatchOption}
 use Rattle.elem.specs.declared.lexing.Lexeme.{Lexeme}
 use Rattle.elem.specs.declared.tokens.Token.{Token}
 use Rattle.elem.specs.declared.tokens.Token.TheVariants as tokens
@@ -9,13 +9,18 @@ use Rattle.elem.specs.declared.tokens.Sign.TheVariants.{Equals}
 use Rattle.elem.specs.Lexing.{with_first}
 use Rattle.script_text.specs.declared.lines.Slice.{Slice}
 use Rattle.script_text.specs.Names.{same_codes, is_name}
-use Rattle.script_text.specs.Trees.{Call, Let, It, Eval, Syntax}
-use Rattle.script_text.specs.Calls.{and_then, calls_of}
+use Rattle.script_text.specs.declared.lines.Part.{Part}
+use Rattle.script_text.specs.Trees.{Call, Expression, Let, It, Eval, Syntax, expr_view, map_expression, part_of}
+use Rattle.script_text.specs.Calls.{AreParts, and_then, calls_of}
 use Rattle.script_text.specs.Lines.{Bound, expression_of, expression_at, bound_at, bound_of, tree_or_fault, line_with, line_at, form_of, NoWord, NoEquals}
 
-pub expression_found : (o : Option (List Lexeme)) (w : List ℕ) (calls : List (Call Slice)) → is_name w ≡ true → and_then o calls_of ≡ Some calls → and_then o (expression_of w) ≡ Some (record { head = w; calls = calls })
-expression_found None w calls name e = absurd cc
-expression_found (Some xs) w calls name e = rw (name, e) refl
+-- an expression is read exactly where the calls behind its name are
+pub expression_read : (r : Option (Unit {0})) (o : Option (List Lexeme)) (w : List ℕ) (parts : List Part) → is_name w ≡ true → MatchOption r (and_then o calls_of ≡ None) (λ u. (calls : List (Call Slice)) × (and_then o calls_of ≡ Some calls) × AreParts parts calls)
+    → MatchOption r (and_then o (expression_of w) ≡ None) (λ u. (x : Expression (Call Slice)) × (and_then o (expression_of w) ≡ Some x) × (expr_view w parts ≡ map_expression part_of x))
+expression_read None None w parts name h = refl
+expression_read None (Some xs) w parts name h = rw (name, h) refl
+expression_read (Some u) None w parts name h = absurd (let none : None ≡ Some h.0 = h.1 in cc)
+expression_read (Some u) (Some xs) w parts name h = (record { head = w; calls = h.0 }, rw (name, h.1) refl, rw h.2 refl)
 
 -- ---- a name, `=` and an expression
 

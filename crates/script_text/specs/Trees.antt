@@ -2,7 +2,6 @@
 use Rattle.std.specs.Prelude.{ℕ, List, [], ◌∷◌, length, map, slice_range}
 use Rattle.script_text.specs.declared.lines.Slice.{Slice}
 use Rattle.script_text.specs.declared.lines.Part.{Part}
-use Rattle.script_text.specs.declared.lines.Expr.{Expr}
 use Rattle.script_text.specs.declared.lines.Line.{Line}
 use Rattle.script_text.specs.declared.lines.Line.TheVariants as lines
 use Rattle.script_text.specs.Names.{kind_text}
@@ -62,15 +61,15 @@ first_three (a ∷ b ∷ c ∷ rest) = a ∷ b ∷ c ∷ []
 abbrev pub part_of : Call Slice → Part
 part_of c = record { word = c.word; count = length c.args; args = first_three c.args }
 
-abbrev pub expr_view : Expr → Expression Part
-expr_view e = record { head = e.head; calls = e.parts.items }
+abbrev pub expr_view : List ℕ → List Part → Expression Part
+expr_view head parts = record { head = head; calls = parts }
 
--- a line as a tree
-abbrev pub line_view : Line → Tree Part
-line_view lines.Blank = Blank
-line_view (lines.New name kind) = New name (kind_text kind)
-line_view (lines.Let name e) = Let name (expr_view e)
-line_view (lines.It name e) = It name (expr_view e)
-line_view (lines.Eval e) = Eval (expr_view e)
-line_view lines.Syntax = Syntax
-line_view lines.Long = Long
+-- a line as a tree, where these parts stand beside it
+abbrev pub line_view : Line → List Part → Tree Part
+line_view lines.Blank parts = Blank
+line_view (lines.New name kind) parts = New name (kind_text kind)
+line_view (lines.Let name head) parts = Let name (expr_view head parts)
+line_view (lines.It name head) parts = It name (expr_view head parts)
+line_view (lines.Eval head) parts = Eval (expr_view head parts)
+line_view lines.Syntax parts = Syntax
+line_view lines.Long parts = Long

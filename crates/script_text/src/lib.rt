@@ -12,5 +12,5 @@ mod reader;
 mod stages;
 
 pub use kinds::{KindName, LongKind};
-pub use lines::{Expr, Line, Part, Slice};
+pub use lines::{Line, Part, Slice};
 pub use reader::read_line;

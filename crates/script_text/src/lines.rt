@@ -1,6 +1,9 @@
 //! A line, as it is read.
+ghost use Rattle.std.specs.Prelude.{◌≡◌, ◌<◌, [], get_or};
+ghost use Rattle.script_text.specs.Parts.{part_in};
+ghost use Rattle.script_text.specs.Trees.{piece};
+
 use crate::kinds::KindName;
-use arrayvec::ArrayVec;
 use elem::Word;
 
 /// A piece of the line: its first byte, and the byte behind its last.
@@ -13,6 +16,17 @@ pub struct Slice {
 impl Default for Slice {
     fn default() -> Self {
         Slice { start: 0, end: 0 }
+    }
+}
+
+impl Slice {
+    /// The bytes at this place of a line; where the line ends before, those that are there.
+    pub fn of<'a>(&self, line: &'a [u8]) -> &'a [u8]
+        ensures { result.now ≡ piece line.now self.now }
+    {
+        let end = line.len().min(self.end as usize);
+        let start = end.min(self.start as usize);
+        &line[start..end]
     }
 }
 
@@ -35,26 +49,33 @@ impl Default for Part {
     }
 }
 
-/// A name, and the words behind it.
-#[derive(Drop)]
-pub struct Expr {
-    pub head: Word,
-    pub parts: ArrayVec<Part, 512>,
+impl Part {
+    /// The text of one of the first three arguments, by its number from 0. One that is not there is empty.
+    pub fn argument<'a>(&self, line: &'a [u8], i: usize) -> &'a [u8]
+        requires { i < 3 }
+        ensures { result.now ≡ get_or (part_in line.now self.now).args i [] }
+    {
+        if i < self.count as usize {
+            self.args[i].of(line)
+        } else {
+            &[]
+        }
+    }
 }
 
-/// What a line is.
-#[derive(Drop)]
+/// What a line is. The words behind the name at the head of an expression stand beside it, as a list of parts.
+#[derive(Clone, Copy, Debug)]
 pub enum Line {
     /// Nothing but spaces, or a comment.
     Blank,
     /// `new name kind`
     New { name: Word, kind: KindName },
     /// `let name = expression`
-    Let { name: Word, expr: Expr },
+    Let { name: Word, head: Word },
     /// `it name = expression`
-    It { name: Word, expr: Expr },
+    It { name: Word, head: Word },
     /// An expression.
-    Eval { expr: Expr },
+    Eval { head: Word },
     /// A line that is not in the grammar.
     Syntax,
     /// A line of more than 1,024 bytes, whatever it holds.

@@ -64,13 +64,13 @@ fn grown(stage: Stage, place: Slice, token: &Lexeme) -> Slice
     }
 }
 
-/// The parts that the tokens are from a place on.
-pub fn parts(line: &[u8], from: usize) -> Option<ArrayVec<Part, 512>>
+/// Reads the parts that the tokens from a place on are, where they are parts, in the place of those that were read before.
+pub fn read_parts(line: &[u8], from: usize, parts: &mut ArrayVec<Part, 512>) -> Option<()>
     requires short { length line.now ≤ 1024 }
     requires within { from ≤ length line.now }
-    ensures { MatchOption result (calls_from line.now from ≡ None) (λ v. (calls : List (Call AnySlice)) × (calls_from line.now from ≡ Some calls) × AreParts v.items calls) }
+    ensures { MatchOption result (calls_from line.now from ≡ None) (λ u. (calls : List (Call AnySlice)) × (calls_from line.now from ≡ Some calls) × AreParts parts.new.items calls) }
 {
-    let mut parts = ArrayVec::new();
+    parts.clear();
     let mut stage = Stage::Ended;
     let mut place = Slice { start: 0, end: 0 };
     let mut at = from;
@@ -88,12 +88,12 @@ pub fn parts(line: &[u8], from: usize) -> Option<ArrayVec<Part, 512>>
                 stage = Stage::Called;
             }
             Turn::Argument(next) => {
-                add_argument(&mut parts, place);
+                add_argument(parts, place);
                 stage = next;
             }
         }
         place = more;
         at = token.end;
     }
-    if may_end(stage) { Some(parts) } else { None }
+    if may_end(stage) { Some(()) } else { None }
 }

@@ -9,9 +9,10 @@ ghost use Rattle.script_text.specs.declared.lines.Slice.{Slice as AnySlice};
 ghost use Rattle.script_text.specs.Trees.{Call, Expression, Tree, line_view, expr_view, map_tree, map_expression, part_of};
 ghost use Rattle.script_text.specs.Lines.{Bound, is_comment, expression_from, bound_from, line_with, tree_or_fault, form_of, placed_line, line_of, IsLine, HasWord, HasEquals};
 
-use crate::lines::{Expr, Line};
+use crate::lines::{Line, Part};
 use crate::news::{is_name, is_text, new_line};
-use crate::parts::parts;
+use crate::parts::read_parts;
+use arrayvec::ArrayVec;
 use elem::{Ahead, Sign, Token, Word, next_lexeme};
 
 /// The most bytes of a line.
@@ -29,16 +30,15 @@ fn is_comment(line: &[u8]) -> bool
     false
 }
 
-fn expression(line: &[u8], head: Word, at: usize) -> Option<Expr>
+fn expression(line: &[u8], head: Word, at: usize, parts: &mut ArrayVec<Part, 512>) -> Option<()>
     requires short { length line.now ≤ 1024 }
     requires within { at ≤ length line.now }
-    ensures { MatchOption result (expression_from line.now head at ≡ None) (λ e. (x : Expression (Call AnySlice)) × (expression_from line.now head at ≡ Some x) × (expr_view e ≡ map_expression part_of x)) }
+    ensures { MatchOption result (expression_from line.now head at ≡ None) (λ u. (x : Expression (Call AnySlice)) × (expression_from line.now head at ≡ Some x) × (expr_view head parts.new.items ≡ map_expression part_of x)) }
 {
     if !is_name(&head) {
         return None;
     }
-    let parts = parts(line, at)?;
-    Some(Expr { head, parts })
+    read_parts(line, at, parts)
 }
 
 /// The word that stands next, and the place behind it.
@@ -71,11 +71,11 @@ fn equals_at(line: &[u8], at: usize) -> Option<usize>
     }
 }
 
-/// A name, `=` and an expression.
-fn bound(line: &[u8], at: usize) -> Option<(Word, Expr)>
+/// A name, `=` and an expression: the name, and the name at the expression's head.
+fn bound(line: &[u8], at: usize, parts: &mut ArrayVec<Part, 512>) -> Option<(Word, Word)>
     requires short { length line.now ≤ 1024 }
     requires within { at ≤ length line.now }
-    ensures { MatchOption result (bound_from line.now at ≡ None) (λ r. (x : Expression (Call AnySlice)) × (bound_from line.now at ≡ Some (r.0, x)) × (expr_view r.1 ≡ map_expression part_of x)) }
+    ensures { MatchOption result (bound_from line.now at ≡ None) (λ r. (x : Expression (Call AnySlice)) × (bound_from line.now at ≡ Some (r.0, x)) × (expr_view r.1 parts.new.items ≡ map_expression part_of x)) }
 {
     let (name, name_end) = word_at(line, at)?;
     let equals_end = equals_at(line, name_end)?;
@@ -83,44 +83,44 @@ fn bound(line: &[u8], at: usize) -> Option<(Word, Expr)>
     if !is_name(&name) {
         return None;
     }
-    let expr = expression(line, head, head_end)?;
-    Some((name, expr))
+    expression(line, head, head_end, parts)?;
+    Some((name, head))
 }
 
 /// The line that begins with a word, which the place stands behind.
-fn with_word(line: &[u8], word: Word, at: usize) -> Line
+fn with_word(line: &[u8], word: Word, at: usize, parts: &mut ArrayVec<Part, 512>) -> Line
     requires short { length line.now ≤ 1024 }
     requires within { at ≤ length line.now }
-    ensures { line_view result ≡ map_tree part_of (tree_or_fault (line_with word) (lexed_from line.now at)) }
+    ensures { line_view result parts.new.items ≡ map_tree part_of (tree_or_fault (line_with word) (lexed_from line.now at)) }
 {
     if is_text(word.bytes(), b"let") {
-        match bound(line, at) {
-            Some((name, expr)) => Line::Let { name, expr },
+        match bound(line, at, parts) {
+            Some((name, head)) => Line::Let { name, head },
             None => Line::Syntax,
         }
     } else if is_text(word.bytes(), b"it") {
-        match bound(line, at) {
-            Some((name, expr)) => Line::It { name, expr },
+        match bound(line, at, parts) {
+            Some((name, head)) => Line::It { name, head },
             None => Line::Syntax,
         }
     } else {
-        match expression(line, word, at) {
-            Some(expr) => Line::Eval { expr },
+        match expression(line, word, at, parts) {
+            Some(()) => Line::Eval { head: word },
             None => Line::Syntax,
         }
     }
 }
 
 /// The line that the tokens are.
-fn statement(line: &[u8]) -> Line
+fn statement(line: &[u8], parts: &mut ArrayVec<Part, 512>) -> Line
     requires { length line.now ≤ 1024 }
-    ensures { line_view result ≡ map_tree part_of (tree_or_fault form_of (lexed line.now)) }
+    ensures { line_view result parts.new.items ≡ map_tree part_of (tree_or_fault form_of (lexed line.now)) }
 {
     match next_lexeme(line, 0) {
         Ahead::Nothing => Line::Blank,
         Ahead::Fault => Line::Syntax,
         Ahead::Next(token) => match &token.token {
-            Token::Word(word) => with_word(line, *word, token.end),
+            Token::Word(word) => with_word(line, *word, token.end, parts),
             _ => Line::Syntax,
         },
     }
@@ -128,8 +128,8 @@ fn statement(line: &[u8]) -> Line
 
 /// The line, its tests in their order.
 #[tactic(auto, unfolding(crate::specs::Lines::placed_line))]
-fn placed_line(line: &[u8]) -> Line
-    ensures { line_view result ≡ map_tree part_of (placed_line line.now) }
+fn placed_line(line: &[u8], parts: &mut ArrayVec<Part, 512>) -> Line
+    ensures { line_view result parts.new.items ≡ map_tree part_of (placed_line line.now) }
 {
     if line.len() > MOST_BYTES {
         return Line::Long;
@@ -139,19 +139,20 @@ fn placed_line(line: &[u8]) -> Line
     }
     match new_line(line) {
         Some((name, kind)) => Line::New { name, kind },
-        None => statement(line),
+        None => statement(line, parts),
     }
 }
 
 /// What a line is, without its newline. It takes no memory.
 ///
 /// A line of more than 1,024 bytes is `Long` whatever it holds, and what is in no form of the grammar is `Syntax`.
-/// The arguments of a part are places in the line, where the tree has the pieces that stand there.
-pub fn read_line(line: &[u8]) -> Line
-    ensures placed { line_view result ≡ map_tree part_of (placed_line line.now) }
+/// The words behind the head of an expression are left in `parts`, in the place of those of an earlier line. The
+/// arguments of a part are places in the line, where the tree has the pieces that stand there.
+pub fn read_line(line: &[u8], parts: &mut ArrayVec<Part, 512>) -> Line
+    ensures placed { line_view result parts.new.items ≡ map_tree part_of (placed_line line.now) }
     ensures grammar { (t : Tree (Call (List ℕ))) → IsLine line.now t ↔ (line_of line.now ≡ t) }
 {
-    placed_line(line)
+    placed_line(line, parts)
 }
 
 #[cfg(test)]
@@ -169,6 +170,11 @@ mod tests {
             Line::Syntax => "syntax",
             Line::Long => "long",
         }
+    }
+
+    fn line_form(text: &[u8]) -> &'static str {
+        let mut parts = ArrayVec::new();
+        form(&read_line(text, &mut parts))
     }
 
     #[test]
@@ -210,29 +216,25 @@ mod tests {
             ("m\t.size", "syntax"),
             ("m.size\r", "syntax"),
         ] {
-            let line = read_line(text.as_bytes());
-            assert!(rt; form(&line) == wanted, "{text}: {}", form(&line));
+            let line = line_form(text.as_bytes());
+            assert!(rt; line == wanted, "{text}: {line}");
         }
     }
 
     #[test]
     fn meets_any_bytes(rt: HostRuntime) {
-        assert!(rt; form(&read_line(&[0xE2])) == "syntax", "a lone byte of ∞");
-        assert!(rt;
-            form(&read_line(&[b'('; 1024])) == "syntax",
-            "1,024 brackets"
-        );
-        assert!(rt; form(&read_line(&[b' '; 1024])) == "blank", "1,024 spaces");
-        assert!(rt; form(&read_line(&[b'#'; 1025])) == "long", "a long comment");
+        assert!(rt; line_form(&[0xE2]) == "syntax", "a lone byte of ∞");
+        assert!(rt; line_form(&[b'('; 1024]) == "syntax", "1,024 brackets");
+        assert!(rt; line_form(&[b' '; 1024]) == "blank", "1,024 spaces");
+        assert!(rt; line_form(&[b'#'; 1025]) == "long", "a long comment");
     }
 
     #[test]
     fn gives_the_places_of_arguments(rt: HostRuntime) {
-        let Line::Eval { expr } = read_line(b"t.put( a , f(1,2),[3 .. 4], 5).size") else {
-            assert!(rt; false, "an expression");
-            return;
-        };
-        let parts = expr.parts.as_slice();
+        let mut parts = ArrayVec::new();
+        let line = read_line(b"t.put( a , f(1,2),[3 .. 4], 5).size", &mut parts);
+        assert!(rt; form(&line) == "eval", "an expression");
+        let parts = parts.as_slice();
         assert!(rt;
             parts.len() == 2 && parts[0].count == 4 && parts[1].count == 0,
             "two parts"
@@ -248,7 +250,9 @@ mod tests {
 
     #[test]
     fn keeps_a_long_kind(rt: HostRuntime) {
-        let Line::New { name, kind } = read_line(b"new g UndirectedValueGraphLoops") else {
+        let mut parts = ArrayVec::new();
+        let line = read_line(b"new g UndirectedValueGraphLoops", &mut parts);
+        let Line::New { name, kind } = line else {
             assert!(rt; false, "a base");
             return;
         };

@@ -1,6 +1,6 @@
 use Rattle.std.proofs.Common.{arith}
 use Rattle.script_text.proofs.LoopLaws.{IsNext, read_none, read_to, read_part, read_argument, read_end, read_open}
-use Rattle.script_text.proofs.parts.parts.Goals as goal
+use Rattle.script_text.proofs.parts.read_parts.Goals as goal
 
 pub returns-in_err-next : goal.returns-in_err-next
 returns-in_err-next c =
