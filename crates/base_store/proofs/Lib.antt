@@ -1,3 +1,4 @@
 pub mod ViewLemmas
 pub mod NodeLemmas
 pub mod PlaceLemmas
+pub mod RowLemmas

@@ -36,9 +36,9 @@ below_more bases more n (made.Base b) le h = let lt : b < bases = h in omega ari
 below_more bases more n (made.Over step parent) le h = h
 
 -- a base and its node added to what is built
-pub built_more : (places : List Place) (nodes temporary : List Made) (place : Place) → IsBuilt (record { places = places; nodes = nodes ++ temporary; lasting = length nodes })
-    → IsBuilt (record { places = places ++ place ∷ []; nodes = (nodes ++ made.Base (length places) ∷ []) ++ []; lasting = length (nodes ++ made.Base (length places) ∷ []) })
-built_more places nodes temporary place h = record {
+pub built_more : (places : List Place) (nodes temporary : List Made) (place : Place) (handles handles' : ℕ) → IsBuilt (record { places = places; nodes = nodes ++ temporary; lasting = length nodes; handles = handles })
+    → IsBuilt (record { places = places ++ place ∷ []; nodes = (nodes ++ made.Base (length places) ∷ []) ++ []; lasting = length (nodes ++ made.Base (length places) ∷ []); handles = handles' })
+built_more places nodes temporary place handles handles' h = record {
   below = λ n node is. by n node is;
   lasting = omega (arith, length-append (nodes ++ made.Base (length places) ∷ []) []);
 }

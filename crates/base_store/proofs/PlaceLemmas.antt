@@ -27,7 +27,7 @@ world_written places b place = map-set base_in places b place
 
 -- a base that was taken is away
 pub is_away : (places : List Place) (b : ℕ) (it : Base) → b < length places → IsAway (set places b (away it)) b
-is_away places b it lt = record { within = rw (length-set places b (away it)) lt; away = ap (λ (p : Place). p.is_there) (get_or-set_same places b (away it) no_place lt) }
+is_away places b it lt = record { within = rw (length-set places b (away it)) lt; away = ap (λ (p : Place). p.is_there) (get_or-set_same places b (away it) no_place lt); bare = ap (λ (p : Place). p.base.rows) (get_or-set_same places b (away it) no_place lt) }
 
 -- a base that was taken keeps its kind and its change number
 pub away_kind : (places : List Place) (b : ℕ) (it : Base) → b < length places → (base_at (world_of (set places b (away it))) b).kind ≡ it.kind
@@ -46,11 +46,11 @@ put_back s b it rows structural lt =
     let same_base : with_rows (base_at (world_of (set s.places b (away it))) b) rows structural ≡ with_rows it rows structural =
     ap (λ (x : Base). with_rows x rows structural) (base_written s.places b (away it) lt) ∙ with_rows-away it rows structural in
     ap (λ (x : Base). with_place (with_place s b (away it)) b (there x)) same_base
-    ∙ ap (λ (ps : List Place). let r : Stored = record { places = ps; nodes = s.nodes; lasting = s.lasting } in r) (set-set s.places b (away it) (there (with_rows it rows structural)))
+    ∙ ap (λ (ps : List Place). let r : Stored = record { places = ps; nodes = s.nodes; lasting = s.lasting; handles = s.handles } in r) (set-set s.places b (away it) (there (with_rows it rows structural)))
 
 -- a base that was taken and put back as it was
 pub put_back_same : (s : Stored) (b : ℕ) (it : Base) (rows : List Item) → IsThere s.places b → it ≡ base_at (world_of s.places) b → rows ≡ it.rows → with_place s b (there (with_rows it rows false)) ≡ s
-put_back_same s b it rows h is same = ap (λ (ps : List Place). let r : Stored = record { places = ps; nodes = s.nodes; lasting = s.lasting } in r) (ap (λ (p : Place). set s.places b p) whole ∙ set-get_or s.places b no_place)
+put_back_same s b it rows h is same = ap (λ (ps : List Place). let r : Stored = record { places = ps; nodes = s.nodes; lasting = s.lasting; handles = s.handles } in r) (ap (λ (p : Place). set s.places b p) whole ∙ set-get_or s.places b no_place)
   where
     as_base : with_rows it rows false ≡ it
     as_base = λ i. record { kind = it.kind; rows = same i; change = add-zero it.change i; frozen = it.frozen }

@@ -1,6 +1,6 @@
-ghost use Rattle.std.specs.Prelude.{◌≡◌, [], IfOk};
+ghost use Rattle.std.specs.Prelude.{◌≡◌, [], length, IfOk};
 
-use elem::{Elem, NoMemory};
+use elem::{Elem, Keyed, NoMemory};
 use linked_base::LinkedMap;
 use std::alloc::Global;
 use view_steps::Kind;
@@ -22,6 +22,15 @@ impl Base {
     {
         match kind {
             Kind::LinkedHashMap => Ok(Base::Map(LinkedMap::new(alloc)?)),
+        }
+    }
+
+    /// How many rows there are, as the limit of rows counts them.
+    pub fn len(&self) -> usize
+        ensures { result ≡ length (rows_of self.now) }
+    {
+        match self {
+            Base::Map(map) => map.len(),
         }
     }
 }

@@ -1,6 +1,7 @@
-ghost use Rattle.std.specs.Prelude.{◌≡◌, ◌+◌, ◌++◌, ◌∷◌, [], ◌<◌, ◌≤◌, ◌^◌, length, OnOk, OnErr, IfOk, IfErr, Some, slice_get};
+ghost use Rattle.std.specs.Prelude.{◌≡◌, ◌+◌, ◌++◌, ◌∷◌, [], ◌<◌, ◌≤◌, ◌^◌, ◌⊎◌, length, OnOk, OnErr, IfOk, IfErr, Some, slice_get, slice_set};
 ghost use Rattle.base_store.specs.Bases.{rows_of, IsOfKind};
-ghost use Rattle.base_store.specs.Stored.{AllThere, IsThere, IsAway, there, away, with_rows, world_of, view_in, with_base, with_node, with_place, without_temporary};
+ghost use Rattle.base_store.specs.Stored.{AllThere, IsReady, IsThere, IsAway, there, away, with_rows, world_of, view_in, with_base, with_kept, with_node, with_place, without_temporary};
+ghost use Rattle.base_store.specs.Limits.{rows_in, most_rows, most_handles};
 ghost use Rattle.base_store.specs.Unfolding.{Unfolds};
 ghost use Rattle.base_store.specs.Nodes.{IsBelow};
 ghost use Rattle.base_store.specs.declared.store.Made.TheVariants.{Over as step_node};
@@ -55,41 +56,59 @@ pub struct Store {
     slots: Vec<Slot>,
     nodes: Vec<Made>,
     temporary: ArrayVec<Made, 32>,
+    handles: usize,
+    rows: usize,
 }
+
+/// The most bases and steps behind names.
+const MOST_HANDLES: usize = 65_536;
+
+/// The most rows of all bases together.
+const MOST_ROWS: usize = 4_194_304;
 
 impl Model for Store {
     ghost use Rattle.std.specs.Prelude.{◌++◌, length};
-    ghost use Rattle.base_store.specs.Stored.{Stored, IsBuilt};
+    ghost use Rattle.base_store.specs.Stored.{Stored, IsSound};
 
     ghost Value = { Stored };
 
-    ghost view = { λ s. record { places = s.slots.items; nodes = s.nodes.items ++ s.temporary.items; lasting = length s.nodes.items } };
+    ghost view = { λ s. record { places = s.slots.items; nodes = s.nodes.items ++ s.temporary.items; lasting = length s.nodes.items; handles = s.handles } };
 
-    ghost invariant = { λ s. IsBuilt (record { places = s.slots.items; nodes = s.nodes.items ++ s.temporary.items; lasting = length s.nodes.items }) };
+    ghost invariant = { λ s. IsSound (record { places = s.slots.items; nodes = s.nodes.items ++ s.temporary.items; lasting = length s.nodes.items; handles = s.handles }) s.rows };
 }
 
 impl Store {
     /// A store without bases.
     pub fn empty(alloc: Global) -> Store
-        ensures { result ≡ record { places = []; nodes = []; lasting = 0 } }
+        ensures { result ≡ record { places = []; nodes = []; lasting = 0; handles = 0 } }
     {
         Store {
             alloc,
             slots: Vec::new(alloc),
             nodes: Vec::new(alloc),
             temporary: ArrayVec::new(),
+            handles: 0,
+            rows: 0,
         }
     }
 
-    /// A new base without rows, and its node. The temporary nodes end.
+    /// A new base without rows, and its node, for one handle. The temporary nodes end.
+    ///
+    /// # Errors
+    ///
+    /// `Limit` where there is no handle left, and `NoMemory`.
     pub fn new_base(&mut self, kind: Kind) -> Result<AnyRef, Refusal>
         requires { AllThere self.old.places }
         ensures number { IfOk result (λ n. n ≡ self.old.lasting) }
         ensures ok { OnOk result (self.new ≡ with_base self.old kind) }
-        ensures all { AllThere self.new.places }
+        ensures ready { IsReady self.new.places }
+        ensures room { OnOk result (self.old.handles < most_handles) }
         ensures err { OnErr result (self.new ≡ self.old) }
-        ensures cause { IfErr result (λ why. why ≡ Refusal.NoMemory) }
+        ensures cause { IfErr result (λ why. ((why ≡ Refusal.Limit) × (self.old.handles ≡ most_handles)) ⊎ (why ≡ Refusal.NoMemory)) }
     {
+        if self.handles == MOST_HANDLES {
+            return Err(Refusal::Limit);
+        }
         let Ok(base) = Base::new(self.alloc, kind) else {
             return Err(Refusal::NoMemory);
         };
@@ -106,6 +125,7 @@ impl Store {
             frozen: false,
             base: Some(base),
         });
+        self.handles += 1;
         Ok(AnyRef::at(number))
     }
 
@@ -133,6 +153,39 @@ impl Store {
         ensures { self.new ≡ without_temporary self.old }
     {
         self.temporary.clear();
+    }
+
+    /// Makes the temporary nodes lasting, for so many handles.
+    ///
+    /// # Errors
+    ///
+    /// `Limit` where there are not so many handles left, and `NoMemory`.
+    pub fn keep(&mut self, handles: usize) -> Result<(), Refusal>
+        ensures ok { OnOk result (self.new ≡ with_kept self.old handles) }
+        ensures room { OnOk result (self.old.handles + handles ≤ most_handles) }
+        ensures err { OnErr result (self.new ≡ self.old) }
+        ensures cause { IfErr result (λ why. ((why ≡ Refusal.Limit) × (most_handles < self.old.handles + handles)) ⊎ (why ≡ Refusal.NoMemory)) }
+    {
+        if handles > MOST_HANDLES - self.handles {
+            return Err(Refusal::Limit);
+        }
+        if self
+            .nodes
+            .extend_from_slice(self.temporary.as_slice())
+            .is_err()
+        {
+            return Err(Refusal::NoMemory);
+        }
+        self.temporary.clear();
+        self.handles += handles;
+        Ok(())
+    }
+
+    /// How many rows may still come.
+    pub fn rows_left(&self) -> usize
+        ensures { result + rows_in (world_of self.now.places) ≡ most_rows }
+    {
+        MOST_ROWS - self.rows
     }
 
     /// How a node was made.
@@ -260,25 +313,50 @@ impl Store {
         ensures kind { IsOfKind (base_at (world_of self.old.places) b).kind result }
         ensures rest { self.new ≡ with_place self.old b (away (base_at (world_of self.old.places) b)) }
     {
-        let slot = &mut self.slots[b.number()];
-        match slot.base.take() {
-            Some(base) => base,
-            None => unreachable!(),
-        }
+        let base = take_out(&mut self.slots, b.number());
+        self.rows -= base.len();
+        base
     }
 
-    /// Puts a base back, and raises its change number where a row was added or removed.
+    /// Puts a base back, counts its rows, and raises its change number where a row was added or removed.
     pub fn finish(&mut self, b: BaseId, base: Base, structural: bool)
         requires away { IsAway self.old.places b }
         requires kind { IsOfKind (base_at (world_of self.old.places) b).kind base }
         requires change { (base_at (world_of self.old.places) b).change < 2 ^ 63 }
-        ensures { self.new ≡ with_place self.old b (there (with_rows (base_at (world_of self.old.places) b) (rows_of base) structural)) }
+        requires few { rows_in (world_of self.old.places) + length (rows_of base) ≤ most_rows }
+        ensures after { self.new ≡ with_place self.old b (there (with_rows (base_at (world_of self.old.places) b) (rows_of base) structural)) }
+        ensures few { rows_in (world_of self.new.places) ≤ most_rows }
     {
-        let slot = &mut self.slots[b.number()];
-        slot.base = Some(base);
-        if structural {
-            slot.change += 1;
-        }
+        self.rows += base.len();
+        put_back(&mut self.slots, b.number(), base, structural);
+    }
+}
+
+/// Takes a base out of its place.
+fn take_out(slots: &mut Vec<Slot>, b: usize) -> Base
+    requires there { IsThere slots.old.items b }
+    ensures rows { rows_of result ≡ (base_at (world_of slots.old.items) b).rows }
+    ensures kind { IsOfKind (base_at (world_of slots.old.items) b).kind result }
+    ensures rest { slots.new.items ≡ slice_set slots.old.items b (away (base_at (world_of slots.old.items) b)) }
+{
+    let slot = &mut slots[b];
+    match slot.base.take() {
+        Some(base) => base,
+        None => unreachable!(),
+    }
+}
+
+/// Puts a base into its place.
+fn put_back(slots: &mut Vec<Slot>, b: usize, base: Base, structural: bool)
+    requires away { IsAway slots.old.items b }
+    requires kind { IsOfKind (base_at (world_of slots.old.items) b).kind base }
+    requires change { (base_at (world_of slots.old.items) b).change < 2 ^ 63 }
+    ensures { slots.new.items ≡ slice_set slots.old.items b (there (with_rows (base_at (world_of slots.old.items) b) (rows_of base) structural)) }
+{
+    let slot = &mut slots[b];
+    slot.base = Some(base);
+    if structural {
+        slot.change += 1;
     }
 }
 
