@@ -1,6 +1,6 @@
 pub mod TypingLemmas
+pub mod TextLemmas
 pub mod ReplyLemmas
-pub mod Cuts
 pub mod EntryLemmas
 pub mod FollowLemmas
 pub mod PrintLemmas
@@ -10,3 +10,4 @@ pub mod CallLemmas
 pub mod EvalLemmas
 pub mod NameLemmas
 pub mod SessionLemmas
+pub mod BindLemmas

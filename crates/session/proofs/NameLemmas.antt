@@ -1,5 +1,5 @@
 -- The names of an environment: what a look-up finds, and what a new base and its name leave.
-use Rattle.std.proofs.Common.{◌≡◌, ℕ, ◌+◌, ◌<◌, ◌≤◌, Bool, true, false, List, [], ◌∷◌, ◌++◌, length, take, Option, Some, Result, Ok, Err, OnOk, cond, nat_eq, refl, sym, ◌∙◌, ap, subst, arith, length-append}
+use Rattle.std.proofs.Common.{◌≡◌, ℕ, ◌+◌, ◌<◌, ◌≤◌, Bool, true, false, List, [], ◌∷◌, ◌++◌, length, take, Option, Some, Result, Ok, Err, OnOk, cond, nat_eq, nat_lt, refl, sym, ◌∙◌, ap, subst, arith, length-append}
 use Rattle.std.specs.Prelude.{codes}
 use Rattle.std.specs.Cmp.Lexicographic.{pointwise}
 use Rattle.std.specs.Map.{lookup}
@@ -7,18 +7,21 @@ use Rattle.std.specs.Option.{option_map}
 use Rattle.std.specs.Result.{is_err, IsOk}
 use Rattle.std.proofs.lemmas.List.{length-map, map-append}
 use Rattle.indexmap.specs.IndexMap.{insert_entry}
+use Rattle.std.proofs.lemmas.Bool.Decides.{nat_tests}
 use Rattle.view_steps.specs.declared.kinds.Kind.{Kind}
+use Rattle.view_steps.specs.declared.refusals.Refusal.TheVariants.{Limit}
 use Rattle.view_steps.specs.Views.{World, View, base, empty_base}
 use Rattle.base_store.specs.declared.store.Made.{Made}
 use Rattle.base_store.specs.declared.store.Made.TheVariants as made
 use Rattle.base_store.specs.Nodes.{view_at}
-use Rattle.base_store.specs.Stored.{Stored, AllThere, world_of, base_in, there, with_base}
+use Rattle.base_store.specs.Limits.{most_handles}
+use Rattle.base_store.specs.Stored.{Stored, IsReady, world_of, base_in, there, with_base}
 use Rattle.base_store.proofs.NodeLemmas.{added_base}
 use Rattle.base_store.proofs.ViewLemmas.{view_at-append}
 use Rattle.session.specs.declared.faults.ExecFault.{ExecFault}
 use Rattle.session.specs.Environment.{named, seen_as, NamesWithin, IsSettled}
 use Rattle.session.specs.Executing.{Executed}
-use Rattle.session.specs.Machine.{says}
+use Rattle.session.specs.Machine.{Outcome, made_new, refused, says, within_handles}
 use Rattle.session.specs.Replying.{Said}
 use Rattle.session.specs.State.{State, bound, ChangesUpTo, view_named}
 use Rattle.session.proofs.CallLemmas.{calm_on, does_said}
@@ -46,9 +49,18 @@ found_within k (x ∷ names) name n h e = by (same_text name x.0) e (found_withi
     by true f rest = let here : x.1 ≡ n = cc in subst (λ m. m < k) here h.0
     by false f rest = rest f
 
+-- ---- handles
+
+-- an outcome for which there are handles comes as it is, and another is refused
+pub within_room : (state : State) (n : ℕ) (o : Outcome) → state.handles + n ≤ most_handles → within_handles state n o ≡ o
+within_room state n o le = let test : nat_lt most_handles (state.handles + n) ≡ false = grind (arith, nat_tests) in ap (λ (b : Bool). cond b (refused state Limit) o) test
+
+pub without_room : (state : State) (n : ℕ) (o : Outcome) → most_handles < state.handles + n → within_handles state n o ≡ refused state Limit
+without_room state n o lt = let test : nat_lt most_handles (state.handles + n) ≡ true = grind (arith, nat_tests) in ap (λ (b : Bool). cond b (refused state Limit) o) test
+
 -- ---- a new name
 
-bound_named : (nodes : List Made) (names : List (List ℕ × ℕ)) (name : List ℕ) (n : ℕ) → named nodes (insert_entry same_text names name n) ≡ bound (named nodes names) name (view_at nodes n)
+pub bound_named : (nodes : List Made) (names : List (List ℕ × ℕ)) (name : List ℕ) (n : ℕ) → named nodes (insert_entry same_text names name n) ≡ bound (named nodes names) name (view_at nodes n)
 bound_named nodes [] name n = refl
 bound_named nodes (e ∷ names) name n = by (same_text name e.0) (bound_named nodes names name n)
   where
@@ -58,11 +70,11 @@ bound_named nodes (e ∷ names) name n = by (same_text name e.0) (bound_named no
     by false rest = ap (λ (ns : List (List ℕ × View)). (e.0, view_at nodes e.1) ∷ ns) rest
 
 -- the views of names are those that they had where only nodes were added
-named_more : (nodes more : List Made) (names : List (List ℕ × ℕ)) → NamesWithin (length nodes) names → named (nodes ++ more) names ≡ named nodes names
+pub named_more : (nodes more : List Made) (names : List (List ℕ × ℕ)) → NamesWithin (length nodes) names → named (nodes ++ more) names ≡ named nodes names
 named_more nodes more [] h = refl
 named_more nodes more (e ∷ names) h = λ i. (e.0, view_at-append nodes more e.1 h.0 i) ∷ named_more nodes more names h.1 i
 
-within_more : (names : List (List ℕ × ℕ)) (name : List ℕ) (node n m : ℕ) → NamesWithin n names → n ≤ m → node < m → NamesWithin m (insert_entry same_text names name node)
+pub within_more : (names : List (List ℕ × ℕ)) (name : List ℕ) (node n m : ℕ) → NamesWithin n names → n ≤ m → node < m → NamesWithin m (insert_entry same_text names name node)
 within_more [] name node n m h le lt = (lt, tt)
 within_more (e ∷ names) name node n m h le lt = by (same_text name e.0) (within_more names name node n m h.1 le lt)
   where
@@ -89,7 +101,8 @@ ok_at (Err x) e h = cc
 pub record Added (s now : Stored) (names names' : List (List ℕ × ℕ)) (name : List ℕ) (kind : Kind) : Type 0 where
   pub settled : IsSettled s names
   pub grown : now ≡ with_base s kind
-  pub all_there : AllThere now.places
+  pub ready : IsReady now.places
+  pub room : s.handles < most_handles
   pub entered : names' ≡ insert_entry same_text names name s.lasting
 
 module _ (s now : Stored) (names names' : List (List ℕ × ℕ)) (name : List ℕ) (kind : Kind) (h : Added s now names names' name kind) where
@@ -101,7 +114,7 @@ module _ (s now : Stored) (names names' : List (List ℕ × ℕ)) (name : List �
 
   pub settled_more : IsSettled now names'
   settled_more = record {
-    all_there = h.all_there;
+    ready = h.ready;
     still = ap (λ (ns : List Made). length ns) nodes_now ∙ length-append s.nodes (made.Base (length s.places) ∷ []) ∙ ap (λ (n : ℕ). n + 1) h.settled.still ∙ sym lasting_now;
     named_within = subst (λ (ns : List (List ℕ × ℕ)). NamesWithin now.lasting ns) (sym h.entered) (within_more names name s.lasting s.lasting now.lasting h.settled.named_within (omega (arith, lasting_now)) (omega (arith, lasting_now)));
   }
@@ -123,22 +136,26 @@ module _ (s now : Stored) (names names' : List (List ℕ × ℕ)) (name : List �
   state_before = seen_as s (named s.nodes names)
 
   abbrev pub state_after : State
-  state_after = record { bases = world_of s.places ++ empty_base kind ∷ []; names = bound (named s.nodes names) name (base (length (world_of s.places))) }
+  state_after = record { bases = world_of s.places ++ empty_base kind ∷ []; names = bound (named s.nodes names) name (base (length (world_of s.places))); handles = s.handles + 1 }
 
   now_is : seen_as now (named now.nodes names') ≡ state_after
-  now_is = ap (λ (w : World). let x : State = record { bases = w; names = named now.nodes names' } in x) worlds ∙ ap (λ (ns : List (List ℕ × View)). let x : State = record { bases = world_of s.places ++ empty_base kind ∷ []; names = ns } in x) names_now
+  now_is = λ i. record { bases = worlds i; names = names_now i; handles = (ap (λ (x : Stored). x.handles) h.grown) i }
+
+  -- the line is not refused
+  roomy : within_handles state_before 1 (record { reply = Some (codes "ok"); after = state_after }) ≡ (let o : Outcome = record { reply = Some (codes "ok"); after = state_after } in o)
+  roomy = within_room state_before 1 (record { reply = Some (codes "ok"); after = state_after }) (omega (arith, h.room))
 
   calm_more : (n : ℕ) (world : World) → ChangesUpTo n world → ChangesUpTo (n + 1) (world ++ empty_base kind ∷ [])
   calm_more n [] c = (omega arith, tt)
   calm_more n (it ∷ world) c = let first : it.change ≤ n = c.0 in (omega (arith, first), calm_more n world c.1)
 
-  pub executed_new : (r : Result (Unit {0}) ExecFault) (t u : Option (List ℕ)) (f g : ℕ) → Said r t u f g (codes "ok" ++ 10 ∷ []) → Executed r state_before (seen_as now (named now.nodes names')) (record { reply = Some (codes "ok"); after = state_after }) t u f g
-  executed_new r t u f g said = record {
+  pub executed_new : (r : Result (Unit {0}) ExecFault) (t u : Option (List ℕ)) (f g : ℕ) → Said r t u f g (codes "ok" ++ 10 ∷ []) → Executed r state_before (seen_as now (named now.nodes names')) (made_new state_before name kind) t u f g
+  executed_new r t u f g said = subst (λ (o : Outcome). Executed r state_before (seen_as now (named now.nodes names')) o t u f g) (sym roomy) (record {
     does = does_said r t u state_before (seen_as now (named now.nodes names')) state_after (codes "ok") said.memory now_is said.wrote;
     changes = λ n c. subst (λ (w : World). ChangesUpTo (n + 1) w) (sym worlds) (calm_more n (world_of s.places) c);
     later = said.later;
     cause = said.cause;
-  }
+  })
 
 -- a reply that changes nothing
 pub executed_said : (r : Result (Unit {0}) ExecFault) (state : State) (t u : Option (List ℕ)) (f g : ℕ) (text : List ℕ) → Said r t u f g (text ++ 10 ∷ []) → Executed r state state (says state text) t u f g

@@ -1,9 +1,12 @@
 -- Pieces of a reply, one after another.
-use Rattle.std.proofs.Common.{◌≡◌, ℕ, ◌≤◌, Bool, true, false, List, [], ◌++◌, Option, None, Some, Result, refl, sym, ◌∙◌, ap, subst, arith, append_assoc}
+use Rattle.std.proofs.Common.{◌≡◌, ◌≢◌, ℕ, ◌≤◌, Bool, true, false, List, [], ◌∷◌, ◌++◌, Option, None, Some, Result, refl, sym, ◌∙◌, ap, subst, arith, append_assoc}
 use Rattle.std.proofs.lemmas.List.{append-nil}
 use Rattle.elem.specs.Outside.{Takes, Rose}
-use Rattle.session.specs.Replying.{Pending, Goes, Sends, Said, nothing_pending, with_piece, flushed, sent_result}
+use Rattle.session.specs.Replying.{Pending, Goes, Refuses, Sends, Said, nothing_pending, with_piece, flushed, sent_result}
 use Rattle.session.specs.declared.faults.ExecFault.{ExecFault}
+use Rattle.view_steps.specs.declared.refusals.Refusal.{Refusal}
+use Rattle.view_steps.specs.declared.refusals.Refusal.TheVariants as refusal
+use Rattle.view_steps.specs.Refusals.{name_of}
 
 pub takes_none : (t : Option (List ℕ)) → Takes t t []
 takes_none None = tt
@@ -82,3 +85,8 @@ said_of t u f g p x r h e is = subst (λ (s : Result (Unit {0}) ExecFault). Said
     by : (b : Bool) → p.failed ≡ b → Sends false b h.sent ([] ++ x) p.bytes → Said (sent_result b) t u f g x
     by true broken front = record { wrote = (h.sent, front, h.takes); memory = λ q. cc; later = h.later; cause = λ q. h.cause refl broken }
     by false calm all = record { wrote = subst (λ (s : List ℕ). Takes t u s) (sym (all ∙ ap (λ z. h.sent ++ z) e ∙ append-nil h.sent)) h.takes; memory = λ q. cc; later = h.later; cause = λ q. cc }
+
+-- a refusal that is not want of memory is said
+pub said_refusal : {T : Type 0} {r : Result T ExecFault} {t u : Option (List ℕ)} {f g : ℕ} (why : Refusal) → why ≢ refusal.NoMemory → Refuses why r t u f g → Said r t u f g (name_of why ++ 10 ∷ [])
+said_refusal refusal.NoMemory memory h = absurd (memory refl)
+said_refusal why memory h = h

@@ -1,70 +1,122 @@
 -- The outcomes of lines, as the plain machine has them.
-use Rattle.std.proofs.Common.{◌≡◌, ℕ, List, Option, None, Some, Result, Ok, Err, refl, sym, ◌∙◌, ap, subst, arith}
+use Rattle.std.proofs.Common.{◌≡◌, ◌⊎◌, ℕ, false, List, [], ◌∷◌, ◌++◌, length, inl, inr, map, Option, None, Some, Result, Ok, Err, refl, sym, ◌∙◌, ap, subst, arith}
 use Rattle.std.specs.Prelude.{codes}
 use Rattle.std.specs.Map.{lookup}
-use Rattle.std.specs.Option.{option_map}
+use Rattle.std.specs.Option.{is_some, option_map}
 use Rattle.view_steps.specs.Kinds.{kind_named}
-use Rattle.view_steps.specs.Views.{View}
+use Rattle.view_steps.specs.Views.{View, shape_at}
 use Rattle.base_store.specs.declared.store.Made.{Made}
 use Rattle.base_store.specs.Nodes.{view_at}
-use Rattle.base_store.specs.Stored.{Stored, view_in}
-use Rattle.session.specs.Arguments.{kept_parts}
+use Rattle.base_store.specs.Stored.{Stored, view_in, world_of}
+use Rattle.script_text.specs.declared.kinds.KindName.{KindName}
+use Rattle.script_text.specs.declared.lines.Line.TheVariants as form
+use Rattle.script_text.specs.declared.lines.Part.{Part as Placed}
+use Rattle.script_text.specs.declared.lines.Slice.{Slice}
+use Rattle.script_text.specs.Names.{kind_text}
+use Rattle.script_text.specs.Trees.{Call, Expression, Tree, expr_view, in_pieces, line_view, map_expression, map_tree, part_of}
+use Rattle.script_text.specs.Trees as tree
 use Rattle.session.specs.declared.faults.ExecFault.{ExecFault}
 use Rattle.session.specs.declared.faults.ExecFault.TheVariants.{NoMemory}
-use Rattle.session.specs.declared.lines.Line.TheVariants as line
-use Rattle.session.specs.declared.lines.Part.{Part}
 use Rattle.session.specs.Environment.{Came, named, seen_as}
 use Rattle.session.specs.Executing.{Executed}
-use Rattle.session.specs.Lines.{Tree, blank, long, syntax_fault, new, eval}
-use Rattle.session.specs.Lines as tree
-use Rattle.session.specs.Machine.{Outcome, says, eval_on, eval_of, new_of, step_of}
-use Rattle.session.specs.Seen.{seen}
+use Rattle.session.specs.Machine.{Outcome, says, eval_on, eval_of, let_concluded, let_of, made_new, new_of, reach, refused, step_of}
+use Rattle.session.specs.Parts.{Part, parts_in}
+use Rattle.session.specs.Replying.{Refuses, Said}
+use Rattle.session.specs.declared.typing.Purpose.TheVariants as purpose
+use Rattle.session.specs.Typing.{Typing, typed_words}
+use Rattle.base_store.specs.Limits.{most_handles}
+use Rattle.view_steps.specs.declared.kinds.Kind.{Kind}
+use Rattle.view_steps.specs.declared.refusals.Refusal.{Refusal}
+use Rattle.view_steps.specs.Refusals.{name_of}
+use Rattle.view_steps.specs.declared.refusals.Refusal.TheVariants as refusal
 use Rattle.session.specs.State.{State, ChangesUpTo, view_named}
 use Rattle.session.proofs.CallLemmas.{calm_on, stays}
-use Rattle.session.proofs.NameLemmas.{named_view, same_text}
+use Rattle.session.proofs.NameLemmas.{executed_said, named_view, same_text, without_room}
 use Rattle.session.proofs.ReplyLemmas.{takes_none}
+use Rattle.session.proofs.TextLemmas.{eval_alike, let_alike}
 
--- ---- the forms of a line
+-- ---- the forms of a line, each as the tree that was read with the places of its arguments
 
-pub on_blank : (state : State) (t : Tree) → line.Blank ≡ seen t → (let o : Outcome = record { reply = None; after = state } in o) ≡ step_of state t
-on_blank state blank e = refl
-on_blank state long e = cc
-on_blank state syntax_fault e = cc
-on_blank state (new name kind) e = cc
-on_blank state (eval name parts) e = cc
+module _ (state : State) (line : List ℕ) where
+  abbrev stepped : Tree (Call Slice) → Outcome
+  stepped t = step_of state (map_tree (in_pieces line) t)
 
-pub on_long : (state : State) (t : Tree) → line.Long ≡ seen t → says state (codes "?long") ≡ step_of state t
-on_long state blank e = cc
-on_long state long e = refl
-on_long state syntax_fault e = cc
-on_long state (new name kind) e = cc
-on_long state (eval name parts) e = cc
+  pub on_blank : (parts : List Placed) (t : Tree (Call Slice)) → line_view form.Blank parts ≡ map_tree part_of t → (let o : Outcome = record { reply = None; after = state } in o) ≡ stepped t
+  on_blank parts tree.Blank e = refl
+  on_blank parts tree.Long e = cc
+  on_blank parts tree.Syntax e = cc
+  on_blank parts (tree.New name kind) e = cc
+  on_blank parts (tree.Let name x) e = cc
+  on_blank parts (tree.It name x) e = cc
+  on_blank parts (tree.Eval x) e = cc
 
-pub on_syntax : (state : State) (t : Tree) → line.Syntax ≡ seen t → says state (codes "?syntax") ≡ step_of state t
-on_syntax state blank e = cc
-on_syntax state long e = cc
-on_syntax state syntax_fault e = refl
-on_syntax state (new name kind) e = cc
-on_syntax state (eval name parts) e = cc
+  pub on_long : (parts : List Placed) (t : Tree (Call Slice)) → line_view form.Long parts ≡ map_tree part_of t → says state (codes "?long") ≡ stepped t
+  on_long parts tree.Blank e = cc
+  on_long parts tree.Long e = refl
+  on_long parts tree.Syntax e = cc
+  on_long parts (tree.New name kind) e = cc
+  on_long parts (tree.Let name x) e = cc
+  on_long parts (tree.It name x) e = cc
+  on_long parts (tree.Eval x) e = cc
 
-pub on_new : (state : State) (name kind : List ℕ) (t : Tree) → line.New name kind ≡ seen t → new_of state name (kind_named kind) ≡ step_of state t
-on_new state name kind blank e = cc
-on_new state name kind long e = cc
-on_new state name kind syntax_fault e = cc
-on_new state name kind (new n k) e =
-    let names : name ≡ n = cc in
-    let kinds : kind ≡ k = cc in
-    ap (λ (x : List ℕ). new_of state x (kind_named kind)) names ∙ ap (λ (x : List ℕ). new_of state n (kind_named x)) kinds
-on_new state name kind (eval n parts) e = cc
+  pub on_syntax : (parts : List Placed) (t : Tree (Call Slice)) → line_view form.Syntax parts ≡ map_tree part_of t → says state (codes "?syntax") ≡ stepped t
+  on_syntax parts tree.Blank e = cc
+  on_syntax parts tree.Long e = cc
+  on_syntax parts tree.Syntax e = refl
+  on_syntax parts (tree.New name kind) e = cc
+  on_syntax parts (tree.Let name x) e = cc
+  on_syntax parts (tree.It name x) e = cc
+  on_syntax parts (tree.Eval x) e = cc
 
-pub on_eval : (state : State) (name : List ℕ) (parts : List Part) (t : Tree) → line.Eval name ≡ seen t → ((n : List ℕ) (ps : List tree.Part) → t ≡ eval n ps → parts ≡ kept_parts ps) → eval_of state (view_named state.names name) parts ≡ step_of state t
-on_eval state name parts blank e kept = cc
-on_eval state name parts long e kept = cc
-on_eval state name parts syntax_fault e kept = cc
-on_eval state name parts (new n k) e kept = cc
-on_eval state name parts (eval n ps) e kept =
-    let names : name ≡ n = cc in
-    ap (λ (x : List ℕ). eval_of state (view_named state.names x) parts) names ∙ ap (eval_of state (view_named state.names n)) (kept n ps refl)
+  pub on_it : (name head : List ℕ) (parts : List Placed) (t : Tree (Call Slice)) → line_view (form.It name head) parts ≡ map_tree part_of t → says state (codes "?call") ≡ stepped t
+  on_it name head parts tree.Blank e = cc
+  on_it name head parts tree.Long e = cc
+  on_it name head parts tree.Syntax e = cc
+  on_it name head parts (tree.New n k) e = cc
+  on_it name head parts (tree.Let n x) e = cc
+  on_it name head parts (tree.It n x) e = refl
+  on_it name head parts (tree.Eval x) e = cc
+
+  pub on_new : (name : List ℕ) (kind : KindName) (parts : List Placed) (t : Tree (Call Slice)) → line_view (form.New name kind) parts ≡ map_tree part_of t → new_of state name (kind_named (kind_text kind)) ≡ stepped t
+  on_new name kind parts tree.Blank e = cc
+  on_new name kind parts tree.Long e = cc
+  on_new name kind parts tree.Syntax e = cc
+  on_new name kind parts (tree.New n k) e =
+      let names : name ≡ n = cc in
+      let kinds : kind_text kind ≡ k = cc in
+      ap (λ (x : List ℕ). new_of state x (kind_named (kind_text kind))) names ∙ ap (λ (x : List ℕ). new_of state n (kind_named x)) kinds
+  on_new name kind parts (tree.Let n x) e = cc
+  on_new name kind parts (tree.It n x) e = cc
+  on_new name kind parts (tree.Eval x) e = cc
+
+  pub on_let : (name head : List ℕ) (parts : List Placed) (t : Tree (Call Slice)) → line_view (form.Let name head) parts ≡ map_tree part_of t → let_of state name (view_named state.names head) (parts_in line parts) ≡ stepped t
+  on_let name head parts tree.Blank e = cc
+  on_let name head parts tree.Long e = cc
+  on_let name head parts tree.Syntax e = cc
+  on_let name head parts (tree.New n k) e = cc
+  on_let name head parts (tree.Let n x) e =
+      let names : name ≡ n = cc in
+      let same : expr_view head parts ≡ map_expression part_of x = cc in
+      let heads : head ≡ x.head = ap (λ (y : Expression Placed). y.head) same in
+      let calls : parts ≡ map part_of x.calls = ap (λ (y : Expression Placed). y.calls) same in
+      ap (λ (m : List ℕ). let_of state m (view_named state.names head) (parts_in line parts)) names ∙ ap (λ (h : List ℕ). let_of state n (view_named state.names h) (parts_in line parts)) heads
+      ∙ ap (λ (ps : List Placed). let_of state n (view_named state.names x.head) (parts_in line ps)) calls ∙ let_alike state n line (view_named state.names x.head) x.calls
+  on_let name head parts (tree.It n x) e = cc
+  on_let name head parts (tree.Eval x) e = cc
+
+  pub on_eval : (head : List ℕ) (parts : List Placed) (t : Tree (Call Slice)) → line_view (form.Eval head) parts ≡ map_tree part_of t → eval_of state (view_named state.names head) (parts_in line parts) ≡ stepped t
+  on_eval head parts tree.Blank e = cc
+  on_eval head parts tree.Long e = cc
+  on_eval head parts tree.Syntax e = cc
+  on_eval head parts (tree.New n k) e = cc
+  on_eval head parts (tree.Let n x) e = cc
+  on_eval head parts (tree.It n x) e = cc
+  on_eval head parts (tree.Eval x) e =
+      let same : expr_view head parts ≡ map_expression part_of x = cc in
+      let heads : head ≡ x.head = ap (λ (y : Expression Placed). y.head) same in
+      let calls : parts ≡ map part_of x.calls = ap (λ (y : Expression Placed). y.calls) same in
+      ap (λ (h : List ℕ). eval_of state (view_named state.names h) (parts_in line parts)) heads
+      ∙ ap (λ (ps : List Placed). eval_of state (view_named state.names x.head) (parts_in line ps)) calls ∙ eval_alike state line (view_named state.names x.head) x.calls
 
 -- ---- executions
 
@@ -83,6 +135,20 @@ executed_no_memory state now outcome t f e = record { does = (e, stays t); chang
 pub seen_same : (s now : Stored) (names names' : List (List ℕ × ℕ)) → now ≡ s → names' ≡ names → seen_as now (named now.nodes names') ≡ seen_as s (named s.nodes names)
 seen_same s now names names' e is = ap (λ (x : Stored). seen_as x (named x.nodes names')) e ∙ ap (λ (ns : List (List ℕ × ℕ)). seen_as s (named s.nodes ns)) is
 
+-- want of memory, as a refusal
+pub executed_silent : {q : Result (Unit {0}) ExecFault} {t u : Option (List ℕ)} {f g : ℕ} (s now : Stored) (names names' : List (List ℕ × ℕ)) (outcome : Outcome) → now ≡ s → names' ≡ names → Refuses refusal.NoMemory q t u f g
+    → Executed q (seen_as s (named s.nodes names)) (seen_as now (named now.nodes names')) outcome t u f g
+executed_silent {q} {t} {u} {f} {g} s now names names' outcome same unnamed said =
+    subst (λ (x : Result (Unit {0}) ExecFault). Executed x before after outcome t u f g) (sym said.0)
+    (subst (λ (x : Option (List ℕ)). Executed {T = Unit {0}} (Err NoMemory) before after outcome t x f g) (sym said.1)
+    (subst (λ (x : ℕ). Executed {T = Unit {0}} (Err NoMemory) before after outcome t t f x) (sym said.2) (executed_no_memory before after outcome t f (seen_same s now names names' same unnamed))))
+  where
+    before : State
+    before = seen_as s (named s.nodes names)
+
+    after : State
+    after = seen_as now (named now.nodes names')
+
 -- ---- an expression behind a name
 
 pub name_unknown : (nodes : List Made) (names : List (List ℕ × ℕ)) (name : List ℕ) → lookup (same_text name) names ≡ None → view_named (named nodes names) name ≡ None
@@ -96,3 +162,38 @@ executed_eval {r} {t} {u} {f} {g} s now names name head parts found h =
   where
     outcome : eval_on (seen_as s (named s.nodes names)) (view_in s head) parts ≡ eval_of (seen_as s (named s.nodes names)) (view_named (named s.nodes names) name) parts
     outcome = ap (λ (o : Option View). eval_of (seen_as s (named s.nodes names)) o parts) (sym (named_view s.nodes names name ∙ ap (option_map (view_at s.nodes)) found))
+
+-- words without a meaning behind a name
+pub executed_untyped : {q : Result (Unit {0}) ExecFault} {t u : Option (List ℕ)} {f g : ℕ} (s : Stored) (names : List (List ℕ × ℕ)) (name headname : List ℕ) (head : ℕ) (parts : List Part) → lookup (same_text headname) names ≡ Some head
+    → is_some (typed_words purpose.Name (shape_at (world_of s.places) (view_in s head)) parts) ≡ false → Said q t u f g (codes "?call" ++ 10 ∷ [])
+    → Executed q (seen_as s (named s.nodes names)) (seen_as s (named s.nodes names)) (let_of (seen_as s (named s.nodes names)) name (view_named (named s.nodes names) headname) parts) t u f g
+executed_untyped {q} {t} {u} {f} {g} s names name headname head parts found untyped said =
+    subst (λ (o : Outcome). Executed q before before o t u f g) outcome (executed_said q before t u f g (codes "?call") said)
+  where
+    before : State
+    before = seen_as s (named s.nodes names)
+
+    none_of : (o : Option Typing) → is_some o ≡ false → o ≡ None
+    none_of None e = refl
+    none_of (Some x) e = cc
+
+    outcome : says before (codes "?call") ≡ let_of before name (view_named (named s.nodes names) headname) parts
+    outcome =
+        sym (ap (λ (words : Option Typing). let_concluded before name (length parts) (reach before.bases (view_in s head) words)) (none_of _ untyped))
+        ∙ ap (λ (v : Option View). let_of before name v parts) (sym (named_view s.nodes names headname ∙ ap (option_map (view_at s.nodes)) found))
+
+-- a new base for which there is no handle, or no memory
+pub executed_full : {q : Result (Unit {0}) ExecFault} {t u : Option (List ℕ)} {f g : ℕ} (s now : Stored) (names names' : List (List ℕ × ℕ)) (name : List ℕ) (kind : Kind) (why : Refusal) → now ≡ s → names' ≡ names
+    → ((why ≡ refusal.Limit) × (s.handles ≡ most_handles)) ⊎ (why ≡ refusal.NoMemory) → Refuses why q t u f g
+    → Executed q (seen_as s (named s.nodes names)) (seen_as now (named now.nodes names')) (made_new (seen_as s (named s.nodes names)) name kind) t u f g
+executed_full {q} {t} {u} {f} {g} s now names names' name kind why same unnamed (inr memory) said =
+    executed_silent s now names names' _ same unnamed (subst (λ (x : Refusal). Refuses x q t u f g) memory said)
+executed_full {q} {t} {u} {f} {g} s now names names' name kind why same unnamed (inl full) said =
+    subst (λ (o : Outcome). Executed q before (seen_as now (named now.nodes names')) o t u f g) (sym (without_room before 1 _ (omega (arith, full.1))))
+    (subst (λ (x : State). Executed q before x (refused before refusal.Limit) t u f g) (sym (seen_same s now names names' same unnamed)) (executed_said q before t u f g (name_of refusal.Limit) told))
+  where
+    before : State
+    before = seen_as s (named s.nodes names)
+
+    told : Said q t u f g (name_of refusal.Limit ++ 10 ∷ [])
+    told = subst (λ (x : Refusal). Refuses x q t u f g) full.0 said

@@ -5,20 +5,26 @@ use Rattle.session.specs.Machine.{reach}
 use Rattle.session.specs.Typing.{Ending, shows, calls, typed_words}
 use Rattle.session.specs.declared.following.End.{End}
 use Rattle.session.specs.declared.following.End.TheVariants as end
-use Rattle.session.specs.declared.lines.Part.{Part}
+use Rattle.session.specs.declared.typing.Purpose.{Purpose}
+use Rattle.session.specs.Parts.{Part}
 use Rattle.view_steps.specs.declared.refusals.Refusal.{Refusal}
 use Rattle.view_steps.specs.declared.refusals.Refusal.TheVariants.{NoMemory}
 use Rattle.view_steps.specs.Views.{World, View, shape_at, path}
 
 -- what the words lead to, from a view
-abbrev pub target : World → View → List Part → Option (Result (View × Ending) Refusal)
-target world view parts = reach world view (typed_words (shape_at world view) parts)
+abbrev pub target : Purpose → World → View → List Part → Option (Result (View × Ending) Refusal)
+target purpose world view parts = reach world view (typed_words purpose (shape_at world view) parts)
 
 -- an end is at a node of the store; a refusal is not want of memory, which no word tells
 abbrev pub IsEnd : Stored → Result End Refusal → Type 0
 IsEnd store (Ok (end.View n)) = n < length store.nodes
 IsEnd store (Ok (end.Call n call)) = n < length store.nodes
 IsEnd store (Err refusal) = refusal ≢ NoMemory
+
+-- the node at an end
+abbrev pub node_of : End → ℕ
+node_of (end.View n) = n
+node_of (end.Call n call) = n
 
 -- an end with the view of its node
 abbrev pub end_in : Stored → Result End Refusal → Result (View × Ending) Refusal
@@ -27,11 +33,11 @@ end_in store (Ok (end.Call n call)) = Ok (view_in store n, calls call)
 end_in store (Err refusal) = Err refusal
 
 -- The words so far led from one node to another: what is left leads where all of them lead.
-pub record Followed (before now : Stored) (head node : ℕ) (parts rest : List Part) : Type 0 where
+pub record Followed (purpose : Purpose) (before now : Stored) (head node : ℕ) (parts rest : List Part) : Type 0 where
   pub places : now.places ≡ before.places
   pub lasting : now.lasting ≡ before.lasting
   pub front : without_temporary now ≡ without_temporary before
   pub within : now.lasting ≤ length now.nodes
   pub stands : node < length now.nodes
   pub room : length now.nodes ≤ now.lasting + path (view_in now node)
-  pub same : target (world_of before.places) (view_in before head) parts ≡ target (world_of before.places) (view_in now node) rest
+  pub same : target purpose (world_of before.places) (view_in before head) parts ≡ target purpose (world_of before.places) (view_in now node) rest

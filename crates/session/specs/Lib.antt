@@ -1,6 +1,4 @@
-pub mod Lines
-pub mod Arguments
-pub mod Seen
+pub mod Parts
 pub mod Typing
 pub mod Replying
 pub mod State
@@ -9,5 +7,6 @@ pub mod Machine
 pub mod Environment
 pub mod Executing
 pub mod Following
+pub mod Binding
 pub mod Entries
 pub mod Printing

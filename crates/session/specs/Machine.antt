@@ -1,5 +1,5 @@
 -- One line: its reply, and the state after it.
-use Rattle.std.specs.Prelude.{ℕ, not, nat_lt, List, [], ◌∷◌, ◌++◌, length, Option, None, Some, Result, Ok, Err, codes, if◌then◌else◌}
+use Rattle.std.specs.Prelude.{ℕ, ◌+◌, max, not, nat_lt, List, [], ◌∷◌, ◌++◌, length, Option, None, Some, Result, Ok, Err, codes, if◌then◌else◌}
 use Rattle.view_steps.specs.declared.calls.Call.{Call}
 use Rattle.view_steps.specs.declared.kinds.Kind.{Kind}
 use Rattle.view_steps.specs.declared.refusals.Refusal.{Refusal}
@@ -12,10 +12,13 @@ use Rattle.view_steps.specs.Steps.{lacks}
 use Rattle.view_steps.specs.Texts.{view_text}
 use Rattle.view_steps.specs.Views.{World, View, base, over, path, candidates, shown, shape_at, flags_at, empty_base}
 use Rattle.base_store.specs.Edits.{Edit}
-use Rattle.session.specs.declared.lines.Part.{Part}
-use Rattle.session.specs.Arguments.{kept_parts}
+use Rattle.base_store.specs.Limits.{rows_in, most_rows, most_handles}
+use Rattle.script_text.specs.Lines.{line_of}
+use Rattle.script_text.specs.Trees.{Tree}
+use Rattle.script_text.specs.Trees as line
+use Rattle.session.specs.declared.typing.Purpose.TheVariants as purpose
 use Rattle.session.specs.Calls.{reply_of, edit_of}
-use Rattle.session.specs.Lines.{Tree, blank, long, syntax_fault, new, eval, read}
+use Rattle.session.specs.Parts.{Part}
 use Rattle.session.specs.State.{State, view_named, bound, written_to}
 use Rattle.session.specs.Typing.{Ending, Typing, shows, calls, typed_words}
 
@@ -52,9 +55,20 @@ abbrev pub after_edit : State → View → Option Edit → State
 after_edit state view None = state
 after_edit state view (Some edit) = written_to state view edit
 
+-- an outcome with no more rows than a session may hold
+abbrev pub within_rows : State → Outcome → Outcome
+within_rows state outcome = if nat_lt most_rows (rows_in outcome.after.bases) then refused state Limit else outcome
+
+-- an outcome that takes so many handles
+abbrev pub within_handles : State → ℕ → Outcome → Outcome
+within_handles state n outcome = if nat_lt most_handles (state.handles + n) then refused state Limit else outcome
+
 -- a call that is not refused replies by what is shown and changes the base
+abbrev pub answered : State → View → Call → Outcome
+answered state view call = record { reply = Some (reply_of call (shown state.bases view)); after = after_edit state view (edit_of call (candidates state.bases view)) }
+
 abbrev pub carried_out : State → View → Call → Outcome
-carried_out state view call = record { reply = Some (reply_of call (shown state.bases view)); after = after_edit state view (edit_of call (candidates state.bases view)) }
+carried_out state view call = within_rows state (answered state view call)
 
 -- a call on a view, refused where it asks for what the view does not allow
 abbrev pub called : State → View → Call → Outcome
@@ -83,31 +97,56 @@ concluded state (Some (Ok end)) = ended state end.0 end.1
 
 -- the words behind a name that stands for a view
 abbrev pub eval_on : State → View → List Part → Outcome
-eval_on state view parts = concluded state (reach state.bases view (typed_words (shape_at state.bases view) parts))
+eval_on state view parts = concluded state (reach state.bases view (typed_words purpose.Reply (shape_at state.bases view) parts))
 
 abbrev pub eval_of : State → Option View → List Part → Outcome
 eval_of state None parts = says state (codes "?name")
 eval_of state (Some view) parts = eval_on state view parts
 
+-- a view gets a name, for as many handles as there are steps and at least one
+abbrev pub made_name : State → List ℕ → ℕ → View → Outcome
+made_name state name steps view = within_handles state (max 1 steps) (record {
+  reply = Some (codes "ok");
+  after = record { bases = state.bases; names = bound state.names name view; handles = state.handles + max 1 steps };
+})
+
+abbrev pub let_concluded : State → List ℕ → ℕ → Option (Result (View × Ending) Refusal) → Outcome
+let_concluded state name steps None = says state (codes "?call")
+let_concluded state name steps (Some (Err refusal)) = refused state refusal
+let_concluded state name steps (Some (Ok end)) = made_name state name steps end.0
+
+-- the words behind a name lead to a view, all of them by steps
+abbrev pub let_on : State → List ℕ → View → List Part → Outcome
+let_on state name view parts = let_concluded state name (length parts) (reach state.bases view (typed_words purpose.Name (shape_at state.bases view) parts))
+
+abbrev pub let_of : State → List ℕ → Option View → List Part → Outcome
+let_of state name None parts = says state (codes "?name")
+let_of state name (Some view) parts = let_on state name view parts
+
 -- a new base, and its name
+abbrev pub made_new : State → List ℕ → Kind → Outcome
+made_new state name kind = within_handles state 1 (record {
+  reply = Some (codes "ok");
+  after = record { bases = state.bases ++ empty_base kind ∷ []; names = bound state.names name (base (length state.bases)); handles = state.handles + 1 };
+})
+
 abbrev pub new_of : State → List ℕ → Option Kind → Outcome
 new_of state name None = says state (codes "?call")
-new_of state name (Some kind) = record {
-  reply = Some (codes "ok");
-  after = record { bases = state.bases ++ empty_base kind ∷ []; names = bound state.names name (base (length state.bases)) };
-}
+new_of state name (Some kind) = made_new state name kind
 
--- the step of a line's tree
-abbrev pub step_of : State → Tree → Outcome
-step_of state blank = record { reply = None; after = state }
-step_of state long = says state (codes "?long")
-step_of state syntax_fault = says state (codes "?syntax")
-step_of state (new name kind) = new_of state name (kind_named kind)
-step_of state (eval name parts) = eval_of state (view_named state.names name) (kept_parts parts)
+-- the step of a line's tree; no view gives iterators yet
+abbrev pub step_of : State → Tree Part → Outcome
+step_of state line.Blank = record { reply = None; after = state }
+step_of state line.Long = says state (codes "?long")
+step_of state line.Syntax = says state (codes "?syntax")
+step_of state (line.New name kind) = new_of state name (kind_named kind)
+step_of state (line.Let name e) = let_of state name (view_named state.names e.head) e.calls
+step_of state (line.It name e) = says state (codes "?call")
+step_of state (line.Eval e) = eval_of state (view_named state.names e.head) e.calls
 
 -- the step of a line's bytes
 abbrev pub step : State → List ℕ → Outcome
-step state line = step_of state (read line)
+step state text = step_of state (line_of text)
 
 -- a reply and a newline, or nothing
 abbrev pub written : Option (List ℕ) → List ℕ

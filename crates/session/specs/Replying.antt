@@ -1,8 +1,11 @@
 -- A reply on its way to the sink: what was sent, what is pending, and whether the sink failed.
-use Rattle.std.specs.Prelude.{◌≡◌, ◌≢◌, ℕ, ◌≤◌, Bool, true, false, List, [], ◌++◌, Option, Result, Ok, Err}
+use Rattle.std.specs.Prelude.{◌≡◌, ◌≢◌, ℕ, ◌≤◌, Bool, true, false, List, [], ◌∷◌, ◌++◌, Option, Result, Ok, Err}
 use Rattle.elem.specs.Outside.{Takes, TakesFront, Stays, IsFront, Rose}
 use Rattle.session.specs.declared.faults.ExecFault.{ExecFault}
 use Rattle.session.specs.declared.faults.ExecFault.TheVariants.{WriteFault, NoMemory}
+use Rattle.view_steps.specs.declared.refusals.Refusal.{Refusal}
+use Rattle.view_steps.specs.declared.refusals.Refusal.TheVariants as refusal
+use Rattle.view_steps.specs.Refusals.{name_of}
 
 pub record Pending : Type 0 where
   pub bytes : List ℕ
@@ -51,3 +54,8 @@ pub record Said {T : Type 0} (result : Result T ExecFault) (told told' : Option 
 abbrev pub sent_result : Bool → Result (Unit {0}) ExecFault
 sent_result true = Err WriteFault
 sent_result false = Ok tt
+
+-- A refusal was said by its name; want of memory is answered, and nothing is said.
+abbrev pub Refuses : {T : Type 0} → Refusal → Result T ExecFault → Option (List ℕ) → Option (List ℕ) → ℕ → ℕ → Type 0
+Refuses refusal.NoMemory result told told' faults faults' = (result ≡ Err NoMemory) × (told' ≡ told) × (faults' ≡ faults)
+Refuses why result told told' faults faults' = Said result told told' faults faults' (name_of why ++ 10 ∷ [])

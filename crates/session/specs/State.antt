@@ -1,4 +1,4 @@
--- The state of the plain machine: the bases, and the names with the views that they stand for.
+-- The state of the plain machine: the bases, the names with the views that they stand for, and the number of handles.
 use Rattle.std.specs.Prelude.{ℕ, ◌≤◌, List, [], ◌∷◌, Option, nat_eq, slice_set, if◌then◌else◌}
 use Rattle.std.specs.Cmp.Lexicographic.{pointwise}
 use Rattle.std.specs.Map.{lookup}
@@ -9,10 +9,12 @@ pub record State : Type 0 where
   pub bases : World
   -- each name with its view, the newest name last
   pub names : List (List ℕ × View)
+  -- how many handles were taken by bases and by views with names
+  pub handles : ℕ
 
 -- nothing is there
 abbrev pub empty : State
-empty = record { bases = []; names = [] }
+empty = record { bases = []; names = []; handles = 0 }
 
 -- the view of a name
 abbrev pub view_named : List (List ℕ × View) → List ℕ → Option View
@@ -23,12 +25,13 @@ abbrev pub bound : List (List ℕ × View) → List ℕ → View → List (List 
 bound [] name view = (name, view) ∷ []
 bound (known ∷ names) name view = if pointwise nat_eq name known.0 then (known.0, view) ∷ names else known ∷ bound names name view
 
--- the state after a write to the base under a view
+-- the bases after an edit of base b
+abbrev pub world_after : World → ℕ → Edit → World
+world_after world b edit = slice_set world b (edited (base_at world b) edit)
+
+-- the state after an edit of the base under a view
 abbrev pub written_to : State → View → Edit → State
-written_to state view edit = record {
-  bases = slice_set state.bases (base_under view) (edited (base_at state.bases (base_under view)) edit);
-  names = state.names;
-}
+written_to state view edit = record { bases = world_after state.bases (base_under view) edit; names = state.names; handles = state.handles }
 
 -- no change number is above n
 abbrev pub ChangesUpTo : ℕ → World → Type 0

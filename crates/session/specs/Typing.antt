@@ -1,5 +1,6 @@
 -- The typing of the words behind a name, from left to right: steps, and then a view or a call, or the first fault.
-use Rattle.std.specs.Prelude.{ℕ, Bool, true, false, List, [], ◌∷◌, Option, None, Some, if◌then◌else◌}
+use Rattle.std.specs.Prelude.{ℕ, Bool, true, false, List, [], ◌∷◌, length, Option, None, Some, if◌then◌else◌}
+use Rattle.std.specs.Option.{option_map, option_and_then}
 use Rattle.view_steps.specs.declared.calls.Call.{Call}
 use Rattle.view_steps.specs.declared.calls.Call.TheVariants as call
 use Rattle.view_steps.specs.declared.calls.CallForm.{CallForm}
@@ -15,10 +16,9 @@ use Rattle.view_steps.specs.Shapes.{sort_of}
 use Rattle.view_steps.specs.Steps.{apply}
 use Rattle.view_steps.specs.Views.{shape_after}
 use Rattle.view_steps.specs.Words.{signature}
-use Rattle.session.specs.Arguments.{count_of}
-use Rattle.session.specs.declared.lines.Args.{Args}
-use Rattle.session.specs.declared.lines.Args.TheVariants as args
-use Rattle.session.specs.declared.lines.Part.{Part}
+use Rattle.session.specs.Parts.{Part, elem_at}
+use Rattle.session.specs.declared.typing.Purpose.{Purpose}
+use Rattle.session.specs.declared.typing.Purpose.TheVariants as purpose
 use Rattle.session.specs.declared.typing.Typed.{Typed}
 use Rattle.session.specs.declared.typing.Typed.TheVariants as typed
 
@@ -39,30 +39,34 @@ step_with (step_form.Plain word) = step.Plain word
 abbrev pub shape_by : Shape → Step → Shape
 shape_by on it = shape_after on (apply on it)
 
--- a call with its arguments
-abbrev pub call_with : CallForm → Args → Option Call
-call_with (call_form.Ask word) args.None = Some (call.Ask word)
-call_with (call_form.Element word) (args.One x) = Some (call.Element word x)
-call_with (call_form.Pair word) (args.Two k v) = Some (call.Pair word k v)
-call_with form given = None
+-- a call with its arguments, where each is an element
+abbrev pub call_with : CallForm → List (List ℕ) → Option Call
+call_with (call_form.Ask word) args = Some (call.Ask word)
+call_with (call_form.Element word) args = option_map (λ x. call.Element word x) (elem_at args 0)
+call_with (call_form.Pair word) args = option_and_then (λ k. option_map (λ v. call.Pair word k v) (elem_at args 1)) (elem_at args 0)
 
 abbrev pub a_call : Option Call → Option Typed
 a_call None = None
 a_call (Some it) = Some (typed.Call it)
 
--- an action with its arguments: a call stands last alone
-abbrev pub acting : Bool → Args → Option Action → Option Typed
-acting is_last given None = None
-acting is_last given (Some (action.Step form)) = Some (typed.Step (step_with form))
-acting is_last given (Some (action.Call form)) = if is_last then a_call (call_with form given) else None
+-- an action with its arguments, where a call may stand or may not
+abbrev pub acting : Bool → List (List ℕ) → Option Action → Option Typed
+acting may_call args None = None
+acting may_call args (Some (action.Step form)) = Some (typed.Step (step_with form))
+acting may_call args (Some (action.Call form)) = if may_call then a_call (call_with form args) else None
 
 -- what a word does on a view of a shape, where it has a meaning there
-unfoldable pub typed_word : Bool → Shape → List ℕ → Args → Option Typed
-typed_word is_last on word given = acting is_last given (signature (sort_of on) word (count_of given))
+unfoldable pub typed_word : Bool → Shape → Part → Option Typed
+typed_word may_call on part = acting may_call part.args (signature (sort_of on) part.word (length part.args))
 
-abbrev pub is_empty : List Part → Bool
+abbrev pub is_empty : {X : Type 0} → List X → Bool
 is_empty [] = true
-is_empty (part ∷ parts) = false
+is_empty (x ∷ xs) = false
+
+-- a call stands last in a line that asks for a reply, and nowhere else
+abbrev pub may_call : Purpose → Bool → Bool
+may_call purpose.Reply is_last = is_last
+may_call purpose.Name is_last = false
 
 -- a step before the rest
 abbrev pub before : Step → Option Typing → Option Typing
@@ -76,6 +80,6 @@ go_on on rest (Some (typed.Step it)) = before it (rest (shape_by on it))
 go_on on rest (Some (typed.Call it)) = Some (record { steps = []; ending = calls it })
 
 -- the words in turn; none where one of them has no meaning in its place
-abbrev pub typed_words : Shape → List Part → Option Typing
-typed_words on [] = Some (record { steps = []; ending = shows })
-typed_words on (part ∷ parts) = go_on on (λ next. typed_words next parts) (typed_word (is_empty parts) on part.word part.args)
+abbrev pub typed_words : Purpose → Shape → List Part → Option Typing
+typed_words purpose on [] = Some (record { steps = []; ending = shows })
+typed_words purpose on (part ∷ parts) = go_on on (λ next. typed_words purpose next parts) (typed_word (may_call purpose (is_empty parts)) on part)

@@ -1,6 +1,6 @@
 //! The calls on views.
 ghost use Rattle.std.specs.Prelude.{◌≡◌, ◌<◌, ◌^◌, ◌++◌, ◌∷◌, [], codes, false, length, true};
-ghost use Rattle.base_store.specs.Stored.{AllThere, world_of, view_in};
+ghost use Rattle.base_store.specs.Stored.{IsReady, world_of, view_in};
 ghost use Rattle.session.specs.Environment.{Came};
 ghost use Rattle.session.specs.Machine.{called, carried_out};
 ghost use Rattle.session.specs.Replying.{Said};
@@ -16,9 +16,9 @@ ghost use Rattle.view_steps.specs.declared.calls.OnPair.TheVariants as on_pair;
 
 use crate::entries::{map_at, put, remove};
 use crate::faults::ExecFault;
-use crate::replies::{Reply, say, say_number, say_optional, say_truth};
+use crate::replies::{Reply, refuse, say, say_number, say_optional, say_truth};
 use base_store::{AnyRef, Store};
-use elem::{Elem, Keyed, NoMemory, Sink, Steps};
+use elem::{Elem, Keyed, Sink, Steps};
 use std::sync::ledger::Ledger;
 use view_steps::{Ask, Call, OnElement, OnPair, Refusal, fits, lacks, needs_of};
 
@@ -32,7 +32,7 @@ pub fn call_on<S: Sink, L: Ledger>(
     steps: &mut Steps<L>,
 ) -> Result<(), ExecFault>
     requires node { n < length store.old.nodes }
-    requires there { AllThere store.old.places }
+    requires there { IsReady store.old.places }
     requires change { ChangesUpTo (2 ^ 62) (world_of store.old.places) }
     ensures { Came result store.old store.new (λ state. called state (view_in store.old n) call.now) (S.taken out.old) (S.taken out.new) (S.faults out.old) (S.faults out.new) }
 {
@@ -62,7 +62,7 @@ fn carry_out<S: Sink, L: Ledger>(
     steps: &mut Steps<L>,
 ) -> Result<(), ExecFault>
     requires node { n < length store.old.nodes }
-    requires there { AllThere store.old.places }
+    requires there { IsReady store.old.places }
     requires change { ChangesUpTo (2 ^ 62) (world_of store.old.places) }
     requires fits { spec.fits (shape_at (world_of store.old.places) (view_in store.old n)) call.now ≡ true }
     requires allowed { lacks (flags_at (world_of store.old.places) (view_in store.old n)) (spec.needs_of call.now) ≡ false }
@@ -86,7 +86,7 @@ fn on_element<S: Sink, L: Ledger>(
     steps: &mut Steps<L>,
 ) -> Result<(), ExecFault>
     requires node { n < length store.old.nodes }
-    requires there { AllThere store.old.places }
+    requires there { IsReady store.old.places }
     requires change { ChangesUpTo (2 ^ 62) (world_of store.old.places) }
     requires fits { spec.fits (shape_at (world_of store.old.places) (view_in store.old n)) (call.Element word x) ≡ true }
     requires allowed { lacks (flags_at (world_of store.old.places) (view_in store.old n)) (spec.needs_of (call.Element word x)) ≡ false }
@@ -108,7 +108,7 @@ fn tell_size<S: Sink>(
     out: &mut S,
 ) -> Result<(), ExecFault>
     requires node { n < length store.now.nodes }
-    requires there { AllThere store.now.places }
+    requires there { IsReady store.now.places }
     ensures { Said result (S.taken out.old) (S.taken out.new) (S.faults out.old) (S.faults out.new) (reply_of (call.Ask Size) (shown (world_of store.now.places) (view_in store.now n)) ++ 10 ∷ []) }
 {
     say_number(reply, out, map_at(store, n).len())
@@ -123,7 +123,7 @@ fn tell_contains<S: Sink, L: Ledger>(
     steps: &mut Steps<L>,
 ) -> Result<(), ExecFault>
     requires node { n < length store.now.nodes }
-    requires there { AllThere store.now.places }
+    requires there { IsReady store.now.places }
     requires set { spec.is_set (shape_at (world_of store.now.places) (view_in store.now n)) ≡ true }
     ensures { Said result (S.taken out.old) (S.taken out.new) (S.faults out.old) (S.faults out.new) (reply_of (call.Element on_element.Contains x) (shown (world_of store.now.places) (view_in store.now n)) ++ 10 ∷ []) }
 {
@@ -140,7 +140,7 @@ fn tell_value<S: Sink, L: Ledger>(
     steps: &mut Steps<L>,
 ) -> Result<(), ExecFault>
     requires node { n < length store.now.nodes }
-    requires there { AllThere store.now.places }
+    requires there { IsReady store.now.places }
     requires map { spec.is_map (shape_at (world_of store.now.places) (view_in store.now n)) ≡ true }
     ensures { Said result (S.taken out.old) (S.taken out.new) (S.faults out.old) (S.faults out.new) (reply_of (call.Element on_element.ValueOf k) (shown (world_of store.now.places) (view_in store.now n)) ++ 10 ∷ []) }
 {
@@ -157,7 +157,7 @@ fn remove_element<S: Sink, L: Ledger>(
     steps: &mut Steps<L>,
 ) -> Result<(), ExecFault>
     requires node { n < length store.old.nodes }
-    requires there { AllThere store.old.places }
+    requires there { IsReady store.old.places }
     requires change { ChangesUpTo (2 ^ 62) (world_of store.old.places) }
     requires set { spec.is_set (shape_at (world_of store.old.places) (view_in store.old n)) ≡ true }
     ensures { Came result store.old store.new (λ state. carried_out state (view_in store.old n) (call.Element on_element.Remove x)) (S.taken out.old) (S.taken out.new) (S.faults out.old) (S.faults out.new) }
@@ -175,7 +175,7 @@ fn remove_key<S: Sink, L: Ledger>(
     steps: &mut Steps<L>,
 ) -> Result<(), ExecFault>
     requires node { n < length store.old.nodes }
-    requires there { AllThere store.old.places }
+    requires there { IsReady store.old.places }
     requires change { ChangesUpTo (2 ^ 62) (world_of store.old.places) }
     requires map { spec.is_map (shape_at (world_of store.old.places) (view_in store.old n)) ≡ true }
     ensures { Came result store.old store.new (λ state. carried_out state (view_in store.old n) (call.Element on_element.RemoveKey k)) (S.taken out.old) (S.taken out.new) (S.faults out.old) (S.faults out.new) }
@@ -194,13 +194,13 @@ fn put_entry<S: Sink, L: Ledger>(
     steps: &mut Steps<L>,
 ) -> Result<(), ExecFault>
     requires node { n < length store.old.nodes }
-    requires there { AllThere store.old.places }
+    requires there { IsReady store.old.places }
     requires change { ChangesUpTo (2 ^ 62) (world_of store.old.places) }
     requires map { spec.is_map (shape_at (world_of store.old.places) (view_in store.old n)) ≡ true }
     ensures { Came result store.old store.new (λ state. carried_out state (view_in store.old n) (call.Pair on_pair.Put k v)) (S.taken out.old) (S.taken out.new) (S.faults out.old) (S.faults out.new) }
 {
     match put(store, store.base_of(n), k, v, steps) {
         Ok(before) => say_optional(reply, out, before),
-        Err(NoMemory) => Err(ExecFault::NoMemory),
+        Err(refusal) => refuse(reply, out, refusal),
     }
 }

@@ -1,23 +1,27 @@
 //! The calls of a map on a base of the store.
-ghost use Rattle.std.specs.Prelude.{◌≡◌, ◌<◌, ◌^◌, length, IfOk, OnErr, OnOk};
+ghost use Rattle.std.specs.Prelude.{◌≡◌, ◌<◌, ◌≤◌, ◌+◌, ◌^◌, ◌⊎◌, None, false, length, if◌then◌else◌, IfErr, IfOk, OnErr, OnOk};
+ghost use Rattle.base_store.specs.Limits.{rows_in, most_rows};
 ghost use Rattle.elem.specs.Keyed.{value_at};
 ghost use Rattle.base_store.specs.Bases.{entries, rows_of};
 ghost use Rattle.base_store.specs.Edits.{edited};
-ghost use Rattle.base_store.specs.Stored.{AllThere, IsThere, world_of, with_place, there, view_in};
+ghost use Rattle.base_store.specs.Stored.{IsReady, IsThere, world_of, with_place, there, view_in};
 ghost use Rattle.view_steps.specs.Views.{base_at, base_under, of_rows};
 ghost use Rattle.view_steps.specs.declared.items.Item.TheVariants.{Entry};
 ghost use Rattle.session.specs.Calls.{addition, removal, has_key, value_shown};
 ghost use Rattle.session.specs.Entries.{put_in, made_new};
+ghost use Rattle.session.specs.State.{world_after};
+ghost use Rattle.view_steps.specs.declared.refusals.Refusal.TheVariants as refusals;
 
 use base_store::{AnyRef, Base, BaseId, Store};
 use elem::{Elem, Keyed, NoMemory, Steps};
 use linked_base::LinkedMap;
 use std::sync::ledger::Ledger;
+use view_steps::Refusal;
 
 /// The map under a node.
 pub fn map_at(store: &Store, n: AnyRef) -> &LinkedMap<Elem>
     requires node { n < length store.now.nodes }
-    requires there { AllThere store.now.places }
+    requires there { IsReady store.now.places }
     ensures rows { entries result.now ≡ (base_at (world_of store.now.places) (base_under (view_in store.now n))).rows }
 {
     match store.base(store.base_of(n)) {
@@ -32,15 +36,19 @@ pub fn put<L: Ledger>(
     k: Elem,
     v: Elem,
     steps: &mut Steps<L>,
-) -> Result<Option<Elem>, NoMemory>
+) -> Result<Option<Elem>, Refusal>
     requires there { IsThere store.old.places b }
+    requires few { rows_in (world_of store.old.places) ≤ most_rows }
     requires change { (base_at (world_of store.old.places) b).change < 2 ^ 63 }
     ensures reply { IfOk result (λ before. before ≡ value_shown (base_at (world_of store.old.places) b).rows k) }
     ensures ok { OnOk result (store.new ≡ with_place store.old b (there (edited (base_at (world_of store.old.places) b) (addition (Entry k v))))) }
+    ensures few { rows_in (world_of store.new.places) ≤ most_rows }
     ensures err { OnErr result (store.new ≡ store.old) }
+    ensures cause { IfErr result (λ why. ((why ≡ refusals.Limit) × (most_rows < rows_in (world_after (world_of store.old.places) b (addition (Entry k v))))) ⊎ (why ≡ refusals.NoMemory)) }
 {
+    let has_room = store.rows_left() > 0;
     let mut map = into_map(store.take_base(b));
-    let before = put_entry(&mut map, k, v, steps);
+    let before = put_entry(&mut map, k, v, has_room, steps);
     store.finish(b, Base::Map(map), is_new(&before));
     before
 }
@@ -53,7 +61,9 @@ pub fn remove<L: Ledger>(
     steps: &mut Steps<L>,
 ) -> Option<Elem>
     requires there { IsThere store.old.places b }
+    requires few { rows_in (world_of store.old.places) ≤ most_rows }
     requires change { (base_at (world_of store.old.places) b).change < 2 ^ 63 }
+    ensures few { rows_in (world_of store.new.places) ≤ most_rows }
     ensures reply { result ≡ value_shown (base_at (world_of store.old.places) b).rows k }
     ensures after { store.new ≡ with_place store.old b (there (edited (base_at (world_of store.old.places) b) (removal (has_key k) (of_rows 0 (base_at (world_of store.old.places) b).rows)))) }
 {
@@ -72,22 +82,25 @@ fn into_map(base: Base) -> LinkedMap<Elem>
 }
 
 /// Whether a put made a new entry.
-fn is_new(before: &Result<Option<Elem>, NoMemory>) -> bool
+fn is_new(before: &Result<Option<Elem>, Refusal>) -> bool
     ensures { result ≡ made_new before.now }
 {
     matches!(before, Ok(None))
 }
 
-/// Gives a key a value in a map, and tells the one before.
+/// Gives a key a value in a map, where there is room for a new entry or none is needed, and tells the one before.
 fn put_entry<L: Ledger>(
     map: &mut LinkedMap<Elem>,
     k: Elem,
     v: Elem,
+    has_room: bool,
     steps: &mut Steps<L>,
-) -> Result<Option<Elem>, NoMemory>
+) -> Result<Option<Elem>, Refusal>
     ensures reply { IfOk result (λ before. before ≡ value_at map.old k) }
     ensures rows { OnOk result (map.new ≡ put_in map.old k v) }
+    ensures few { length map.new ≤ length map.old + (if has_room then 1 else 0) }
     ensures err { OnErr result (map.new ≡ map.old) }
+    ensures cause { IfErr result (λ why. ((why ≡ refusals.Limit) × (has_room ≡ false) × (value_at map.old k ≡ None)) ⊎ (why ≡ refusals.NoMemory)) }
 {
     let key = k;
     let before = map.probe(key, steps);
@@ -95,8 +108,11 @@ fn put_entry<L: Ledger>(
         map.replace(k, v, steps);
         return Ok(before);
     }
+    if !has_room {
+        return Err(Refusal::Limit);
+    }
     match map.insert(k, v, steps) {
         Ok(()) => Ok(None),
-        Err(NoMemory) => Err(NoMemory),
+        Err(NoMemory) => Err(Refusal::NoMemory),
     }
 }

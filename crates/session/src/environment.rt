@@ -1,21 +1,26 @@
 //! The bases of a session, and the names of views of them.
-ghost use Rattle.std.specs.Prelude.{◌≡◌, ◌^◌};
+ghost use Rattle.std.specs.Prelude.{◌≡◌, ◌^◌, IfErr, OnErr, OnOk};
+ghost use Rattle.script_text.specs.Names.{kind_text};
+ghost use Rattle.session.specs.Binding.{Answers, IsFull, KeptNode, Keeps};
+ghost use Rattle.session.specs.Parts.{parts_in};
 ghost use Rattle.session.specs.Executing.{Executed};
-ghost use Rattle.session.specs.Machine.{eval_of, new_of};
+ghost use Rattle.session.specs.Machine.{eval_of, let_of, new_of};
 ghost use Rattle.session.specs.State.{ChangesUpTo, empty, view_named};
 ghost use Rattle.view_steps.specs.Kinds as kinds;
 
 use crate::evaluating::evaluate;
 use crate::faults::ExecFault;
-use crate::lines::Part;
-use crate::replies::{Reply, say};
+use crate::following::{End, follow};
+use crate::replies::{Reply, refuse, say};
+use crate::typing::{Purpose, is_typed};
 use base_store::{AnyRef, Store};
 use elem::{Sink, Steps, Word};
 use indexmap::IndexMap;
+use script_text::{KindName, Part};
 use std::alloc::Global;
 use std::marker::Model;
 use std::sync::ledger::Ledger;
-use view_steps::kind_named;
+use view_steps::{Refusal, kind_named};
 
 /// Bases, and names that stand for views of them.
 #[derive(Drop)]
@@ -55,11 +60,11 @@ impl Environment {
     pub fn make<S: Sink>(
         &mut self,
         name: Word,
-        kind: Word,
+        kind: &KindName,
         reply: &mut Reply,
         out: &mut S,
     ) -> Result<(), ExecFault>
-        ensures { Executed result self.old self.new (new_of self.old name (kinds.kind_named kind)) (S.taken out.old) (S.taken out.new) (S.faults out.old) (S.faults out.new) }
+        ensures { Executed result self.old self.new (new_of self.old name (kinds.kind_named (kind_text kind.now))) (S.taken out.old) (S.taken out.new) (S.faults out.old) (S.faults out.new) }
     {
         let Some(kind) = kind_named(kind.bytes()) else {
             return say(reply, out, b"?call");
@@ -67,29 +72,111 @@ impl Environment {
         if self.names.reserve(1).is_err() {
             return Err(ExecFault::NoMemory);
         }
-        let Ok(node) = self.store.new_base(kind) else {
-            return Err(ExecFault::NoMemory);
+        match self.store.new_base(kind) {
+            Ok(node) => {
+                let _ = self.names.insert(name, node);
+                say(reply, out, b"ok")
+            }
+            Err(refusal) => refuse(reply, out, refusal),
+        }
+    }
+
+    /// Gives a name to the view that the words behind a name lead to.
+    pub fn bind<S: Sink>(
+        &mut self,
+        name: Word,
+        head: Word,
+        line: &[u8],
+        parts: &[Part],
+        reply: &mut Reply,
+        out: &mut S,
+    ) -> Result<(), ExecFault>
+        ensures { Executed result self.old self.new (let_of self.old name (view_named self.old.names head) (parts_in line.now parts.now)) (S.taken out.old) (S.taken out.new) (S.faults out.old) (S.faults out.new) }
+    {
+        let Some(head) = self.names.get(&head) else {
+            return say(reply, out, b"?name");
         };
-        let _ = self.names.insert(name, node);
-        say(reply, out, b"ok")
+        let head = *head;
+        if !is_typed(Purpose::Name, self.store.shape(head), line, parts) {
+            return say(reply, out, b"?call");
+        }
+        let end = follow(&mut self.store, head, Purpose::Name, line, parts);
+        let kept = keep_end(&mut self.store, &mut self.names, name, &end, parts.len());
+        tell_kept(kept, reply, out)
     }
 
     /// Evaluates the words behind a name.
     pub fn eval<S: Sink, L: Ledger>(
         &mut self,
-        name: Word,
+        head: Word,
+        line: &[u8],
         parts: &[Part],
         reply: &mut Reply,
         out: &mut S,
         steps: &mut Steps<L>,
     ) -> Result<(), ExecFault>
         requires { ChangesUpTo (2 ^ 62) self.old.bases }
-        ensures { Executed result self.old self.new (eval_of self.old (view_named self.old.names name) parts.now) (S.taken out.old) (S.taken out.new) (S.faults out.old) (S.faults out.new) }
+        ensures { Executed result self.old self.new (eval_of self.old (view_named self.old.names head) (parts_in line.now parts.now)) (S.taken out.old) (S.taken out.new) (S.faults out.old) (S.faults out.new) }
     {
-        let Some(head) = self.names.get(&name) else {
+        let Some(head) = self.names.get(&head) else {
             return say(reply, out, b"?name");
         };
         let head = *head;
-        evaluate(&mut self.store, head, parts, reply, out, steps)
+        evaluate(&mut self.store, head, line, parts, reply, out, steps)
     }
+}
+
+/// Makes the view at an end last and gives it a name, for as many handles as there are steps and at least one. Where
+/// this is refused, the nodes on the way there end.
+fn keep_end(
+    store: &mut Store,
+    names: &mut IndexMap<Word, AnyRef>,
+    name: Word,
+    end: &Result<End, Refusal>,
+    steps: usize,
+) -> Result<(), Refusal>
+    ensures { Keeps result end.now store.old store.new names.old.entries names.new.entries name steps }
+{
+    let kept = match end {
+        Ok(end) => keep_node(store, names, name, end.node(), steps.max(1)),
+        Err(refusal) => Err(*refusal),
+    };
+    if kept.is_err() {
+        store.drop_temporary();
+    }
+    kept
+}
+
+/// Says `ok` where an end was kept, and why not where it was not.
+fn tell_kept<S: Sink>(
+    kept: Result<(), Refusal>,
+    reply: &mut Reply,
+    out: &mut S,
+) -> Result<(), ExecFault>
+    ensures { Answers kept result (S.taken out.old) (S.taken out.new) (S.faults out.old) (S.faults out.new) }
+{
+    match kept {
+        Ok(()) => say(reply, out, b"ok"),
+        Err(refusal) => refuse(reply, out, refusal),
+    }
+}
+
+/// Makes the temporary nodes last and gives a name to a node, for so many handles.
+fn keep_node(
+    store: &mut Store,
+    names: &mut IndexMap<Word, AnyRef>,
+    name: Word,
+    node: AnyRef,
+    handles: usize,
+) -> Result<(), Refusal>
+    ensures ok { OnOk result (KeptNode store.old store.new names.old.entries names.new.entries name node handles) }
+    ensures err { OnErr result ((store.new ≡ store.old) × (names.new.entries ≡ names.old.entries)) }
+    ensures cause { IfErr result (λ why. IsFull store.old handles why) }
+{
+    if names.reserve(1).is_err() {
+        return Err(Refusal::NoMemory);
+    }
+    store.keep(handles)?;
+    let _ = names.insert(name, node);
+    Ok(())
 }

@@ -7,7 +7,6 @@ mod environment;
 mod evaluating;
 mod faults;
 mod following;
-mod lines;
 mod printing;
 mod replies;
 mod session;

@@ -1,7 +1,7 @@
 //! Printing a view.
 ghost use Rattle.std.specs.Prelude.{◌≡◌, ◌<◌, ◌++◌, ◌∷◌, [], length, map as mapped};
 ghost use Rattle.elem.specs.Keyed.{IsPresent};
-ghost use Rattle.base_store.specs.Stored.{AllThere, world_of, view_in};
+ghost use Rattle.base_store.specs.Stored.{IsReady, world_of, view_in};
 ghost use Rattle.session.specs.Printing.{items_of, item_of_key, separator};
 ghost use Rattle.session.specs.Replying.{Goes, Said};
 ghost use Rattle.view_steps.specs.Texts as text;
@@ -25,7 +25,7 @@ pub fn print<S: Sink, L: Ledger>(
     steps: &mut Steps<L>,
 ) -> Result<(), ExecFault>
     requires node { n < length store.now.nodes }
-    requires there { AllThere store.now.places }
+    requires there { IsReady store.now.places }
     ensures { let w = world_of store.now.places in let v = view_in store.now n in
         Said result (S.taken out.old) (S.taken out.new) (S.faults out.old) (S.faults out.new) (text.view_text (shape_at w v) (shown w v) ++ 10 ∷ []) }
 {

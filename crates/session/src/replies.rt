@@ -1,7 +1,7 @@
 //! What is written to the sink.
 ghost use Rattle.std.specs.Prelude.{◌≡◌, ◌++◌, ◌∷◌, [], decimal};
 ghost use Rattle.std.specs.Bool.{OnFalse, OnTrue};
-ghost use Rattle.session.specs.Replying.{Goes, Said, nothing_pending, with_piece, flushed, sent_result};
+ghost use Rattle.session.specs.Replying.{Goes, Refuses, Said, nothing_pending, with_piece, flushed, sent_result};
 ghost use Rattle.view_steps.specs.Texts.{optional_text, truth_text};
 
 use crate::faults::ExecFault;
@@ -9,6 +9,7 @@ use arrayvec::ArrayVec;
 use elem::{Elem, Sink, write_elem};
 use itoa::Buffer;
 use std::marker::Model;
+use view_steps::Refusal;
 
 /// A reply on its way to the sink: it goes there in one piece where it is short, in pieces of at most 4 KiB where it is
 /// not. After a failure of the sink nothing more goes there, until the next reply is begun.
@@ -137,4 +138,14 @@ pub fn say_number<S: Sink>(reply: &mut Reply, out: &mut S, number: usize) -> Res
 {
     let mut digits = Buffer::new();
     say(reply, out, digits.format(number).as_bytes())
+}
+
+/// Says why a line is refused. Want of memory is not said.
+pub fn refuse<S: Sink>(reply: &mut Reply, out: &mut S, refusal: Refusal) -> Result<(), ExecFault>
+    ensures { Refuses refusal result (S.taken out.old) (S.taken out.new) (S.faults out.old) (S.faults out.new) }
+{
+    match refusal {
+        Refusal::NoMemory => Err(ExecFault::NoMemory),
+        refusal => say(reply, out, refusal.name().as_bytes()),
+    }
 }

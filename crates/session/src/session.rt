@@ -8,10 +8,10 @@ ghost use Rattle.session.specs.State.{ChangesUpTo, empty};
 
 use crate::environment::Environment;
 use crate::faults::ExecFault;
-use crate::lines::{Line, Part, read_line};
 use crate::replies::{Reply, say};
 use arrayvec::ArrayVec;
 use elem::{Sink, Steps};
+use script_text::{Line, Part, read_line};
 use std::alloc::Global;
 use std::marker::Model;
 use std::sync::ledger::Ledger;
@@ -87,10 +87,17 @@ impl Session {
             Line::Blank => Ok(()),
             Line::Long => say(&mut self.reply, out, b"?long"),
             Line::Syntax => say(&mut self.reply, out, b"?syntax"),
-            Line::New(name, kind) => self.environment.make(name, kind, &mut self.reply, out),
-            Line::Eval(name) => {
+            Line::New { name, kind } => self.environment.make(name, &kind, &mut self.reply, out),
+            Line::Let { name, head } => {
+                let parts = self.parts.as_slice();
                 self.environment
-                    .eval(name, self.parts.as_slice(), &mut self.reply, out, steps)
+                    .bind(name, head, line, parts, &mut self.reply, out)
+            }
+            Line::It { .. } => say(&mut self.reply, out, b"?call"),
+            Line::Eval { head } => {
+                let parts = self.parts.as_slice();
+                self.environment
+                    .eval(head, line, parts, &mut self.reply, out, steps)
             }
         }
     }

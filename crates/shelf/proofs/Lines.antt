@@ -6,7 +6,10 @@ use Rattle.std.proofs.lemmas.Bool.Decides.{nat_tests, leb_tells}
 use borrow.Author.Tests.{lt-ltb}
 use Rattle.session.specs.State.{State, empty}
 use Rattle.session.specs.Machine.{step, step_of}
-use Rattle.session.specs.Lines.{read, long, form_of, trimmed}
+use Rattle.elem.specs.Lexing.{lexed}
+use Rattle.script_text.specs.Lines.{form_of, is_comment, is_new, line_of, new_of, placed_line, tree_or_fault}
+use Rattle.script_text.specs.Trees.{Blank, Call, Long, Tree, in_pieces, map_tree}
+use Rattle.script_text.specs.declared.lines.Slice.{Slice}
 use Rattle.session.specs.Machine.{written}
 use Rattle.shelf.specs.Transcript.{lines_of, replies, transcript, before_lines, whole_lines}
 use Rattle.shelf.specs.Feed.{IsOneLine, kept, replies_with, replies_on, whole_replies_on}
@@ -15,9 +18,10 @@ one_more : (line : List ℕ) (b : ℕ) → IsOneLine line → b == 10 ≡ false 
 one_more [] b h e = (e, tt)
 one_more (c ∷ line) b h e = (h.0, one_more line b h.1 e)
 
-read_long : (line : List ℕ) → 1024 < length line → read line ≡ long
-unfolding read
-read_long line h = ap (λ (b : Bool). cond b long (form_of (trimmed line))) (lt-ltb 1024 (length line) h)
+read_long : (line : List ℕ) → 1024 < length line → line_of line ≡ Long
+unfolding placed_line
+read_long line h =
+    ap (λ (b : Bool). map_tree (in_pieces line) (cond b Long (cond (is_comment line) Blank (cond (is_new line) (new_of line) (tree_or_fault form_of (lexed line)))))) (lt-ltb 1024 (length line) h)
 
 -- a line is kept whole, or its front is already too long
 kept_cases : (line : List ℕ) → (kept line ≡ line) ⊎ ((length (kept line) ≡ 1025) × (1025 ≤ length line))
@@ -27,9 +31,9 @@ kept_cases line = elim (leb_tells (length line) 1025) as (λ _. (kept line ≡ l
 ]
 
 -- what is cut off a line doesn't change how it reads
-pub read_kept : (line : List ℕ) → read (kept line) ≡ read line
-read_kept line = elim (kept_cases line) as (λ _. read (kept line) ≡ read line) [
-  | inl same ↦ ap read same
+pub read_kept : (line : List ℕ) → line_of (kept line) ≡ line_of line
+read_kept line = elim (kept_cases line) as (λ _. line_of (kept line) ≡ line_of line) [
+  | inl same ↦ ap line_of same
   | inr q ↦ let now : length (kept line) ≡ 1025 = q.0 in let before : 1025 ≤ length line = q.1 in
       read_long (kept line) (omega arith) ∙ sym (read_long line (omega arith))
 ]

@@ -10,7 +10,7 @@ use Rattle.session.specs.Replying.{Wrote}
 use Rattle.session.specs.declared.faults.ExecFault.{ExecFault}
 use Rattle.session.specs.declared.faults.ExecFault.TheVariants.{WriteFault, NoMemory}
 use Rattle.session.proofs.ReplyLemmas.{takes_more, takes_none}
-use Rattle.session.specs.Lines.{read}
+use Rattle.script_text.specs.Lines.{line_of}
 use Rattle.shelf.proofs.Lines.{kept_more, kept_short, read_kept}
 use Rattle.shelf.specs.Feed.{IsOneLine, Fed, FedFront, FedWhole, last_reply, no_reply, replies_with, replies_on, whole_replies_on, kept}
 
@@ -63,7 +63,7 @@ pub text_fed : (s : State) (line text : List ℕ) (told : Option (List ℕ)) →
 text_fed s line text told short one = record { text = []; takes = takes_none told; rest = λ at_end more. over_text at_end s line text more short one }
 
 -- the replies behind a line that a text ends, where it is executed as a line that reads the same
-over_line : (at_end : State → List ℕ → List ℕ) (s : State) (line text seen more : List ℕ) → length line ≤ 1025 → IsOneLine text → read seen ≡ read (line ++ text)
+over_line : (at_end : State → List ℕ → List ℕ) (s : State) (line text seen more : List ℕ) → length line ≤ 1025 → IsOneLine text → line_of seen ≡ line_of (line ++ text)
     → replies_with at_end s line ((text ++ 10 ∷ []) ++ more) ≡ written (step s seen).reply ++ replies_with at_end (step s seen).after [] more
 unfolding replies_with
 over_line at_end s line text seen more short one same =
@@ -74,7 +74,7 @@ over_line at_end s line text seen more short one same =
 pub record IsLine (line text seen : List ℕ) : Type 0 where
   pub short : length line ≤ 1025
   pub one : IsOneLine text
-  pub same : read seen ≡ read (line ++ text)
+  pub same : line_of seen ≡ line_of (line ++ text)
 
 pub line_fed : (r : Result (Unit {0}) ExecFault) (s t : State) (line text seen next : List ℕ) (old new : Option (List ℕ)) → IsLine line text seen → next ≡ [] →
     OnOk r (t ≡ (step s seen).after) → Wrote r old new (written (step s seen).reply) → OnOk r (Fed s t line next (text ++ 10 ∷ []) old new)
@@ -101,10 +101,10 @@ line_front (Err NoMemory) s line text seen old new l wrote = record { text = [];
 
 -- a line that is handed over from its piece, and one from the buffer
 pub from_piece : (line text : List ℕ) → line ≡ [] → IsOneLine text → IsLine line text text
-from_piece line text none one = record { short = subst (λ (l : List ℕ). length l ≤ 1025) (sym none) (omega arith); one = one; same = ap (λ l. read (l ++ text)) (sym none) }
+from_piece line text none one = record { short = subst (λ (l : List ℕ). length l ≤ 1025) (sym none) (omega arith); one = one; same = ap (λ l. line_of (l ++ text)) (sym none) }
 
 pub from_buffer : (line text seen : List ℕ) → length line ≤ 1025 → IsOneLine text → seen ≡ kept (line ++ text) → IsLine line text seen
-from_buffer line text seen short one e = record { short = short; one = one; same = ap read e ∙ read_kept (line ++ text) }
+from_buffer line text seen short one e = record { short = short; one = one; same = ap line_of e ∙ read_kept (line ++ text) }
 
 -- ---- whole lines, where memory ran out
 

@@ -54,3 +54,18 @@ fn a_linked_map_and_its_set_of_keys(rt: HostRuntime) -> Result<(), Fail> {
     );
     Ok(())
 }
+
+#[test]
+fn a_view_with_a_name_is_live(rt: HostRuntime) -> Result<(), Fail> {
+    let script =
+        b"new m LinkedHashMap\nlet k = m.keySet\nk.add(a)\nm.put(a, 1)\nk.contains(a)\nk\nlet m = k\nk.size\nlet z = m.size\nz\nlet q = r\nm.get([1 .. b])\nit i = k\nlet 1 = m";
+    let (status, sink) = run_script::<Brand>(rt.alloc(), Blank::new(1), script, 64)
+        .ok()
+        .ok_or("memory")?;
+    assert_eq!(rt; status, Status::Done);
+    assert_eq!(rt;
+        sink.bytes(),
+        b"ok\nok\nUnsupportedOperationException\nnull\ntrue\n[a]\nok\n1\n?call\n?name\n?name\n?call\n?call\n?syntax\n".as_slice()
+    );
+    Ok(())
+}

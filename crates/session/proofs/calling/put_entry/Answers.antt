@@ -6,7 +6,7 @@ use Rattle.view_steps.specs.declared.items.Item.TheVariants.{Entry}
 use Rattle.view_steps.specs.Texts.{optional_text}
 use Rattle.view_steps.specs.Views.{base_at}
 use Rattle.session.specs.Calls.{addition, value_shown}
-use Rattle.session.proofs.CallLemmas.{came_wrote, came_no_memory, room_left}
+use Rattle.session.proofs.CallLemmas.{came_refusal, came_wrote, room_left}
 use Rattle.session.proofs.ViewLemmas.{map_shown}
 use Rattle.session.proofs.calling.put_entry.Goals as goal
 
@@ -17,11 +17,14 @@ pub returns-in-Ok : goal.returns-in-Ok
 returns-in-Ok g c =
     let w = world_of c.args.store.now.places in
     let v = view_in c.args.store.now c.args.n in
-    came_wrote c.args.store.now v _ (Pair Put c.args.k c.args.v) c.base_of.result (addition (Entry c.args.k c.args.v)) _ c.requires.there c.base_of.ensures.base
+    came_wrote c.args.store.now v _ (Pair Put c.args.k c.args.v) c.base_of.result (addition (Entry c.args.k c.args.v)) _ c.requires.there c.put.ensures.few c.base_of.ensures.base
     c.in-Ok.ensures.ok
     refl
     (ap optional_text (ap (λ items. value_shown items c.args.k) (map_shown w v c.requires.map) ∙ sym (c.in-Ok.ensures.reply ∙ ap (λ b. value_shown (base_at w b).rows c.args.k) c.base_of.ensures.base)))
     c.say_optional.ensures
 
 pub returns-in-Err : goal.returns-in-Err
-returns-in-Err g c = came_no_memory c.args.store.now _ _ _ _ c.requires.there c.in-Err.ensures.err
+returns-in-Err g c =
+    let w = world_of c.args.store.now.places in
+    let v = view_in c.args.store.now c.args.n in
+    came_refusal c.args.store.now v _ (Pair Put c.args.k c.args.v) c.base_of.result (addition (Entry c.args.k c.args.v)) c.in-Err.refusal c.requires.there c.base_of.ensures.base refl c.in-Err.ensures.err c.in-Err.ensures.cause c.refuse.ensures

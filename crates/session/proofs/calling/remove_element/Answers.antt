@@ -18,7 +18,7 @@ returns g c =
     let w = world_of c.args.store.now.places in
     let v = view_in c.args.store.now c.args.n in
     let found = c.is_some.ensures ∙ ap is_some (c.remove-before.ensures.reply ∙ ap (λ b. value_shown (base_at w b).rows c.args.x) c.base_of.ensures.base) in
-    came_wrote c.args.store.now v _ (Element Remove c.args.x) c.base_of.result _ _ c.requires.there c.base_of.ensures.base
+    came_wrote c.args.store.now v _ (Element Remove c.args.x) c.base_of.result _ _ c.requires.there c.remove-before.ensures.few c.base_of.ensures.base
     (c.remove-before.ensures.after)
     (ap Some (set_removal w v c.args.x c.requires.set ∙ sym (ap (λ b. removal (has_key c.args.x) (of_rows 0 (base_at w b).rows)) c.base_of.ensures.base)))
     (ap truth_text (key_shown w v c.args.x c.requires.set ∙ sym found))

@@ -16,7 +16,7 @@ pub returns : goal.returns
 returns g c =
     let w = world_of c.args.store.now.places in
     let v = view_in c.args.store.now c.args.n in
-    came_wrote c.args.store.now v _ (Element RemoveKey c.args.k) c.base_of.result _ _ c.requires.there c.base_of.ensures.base
+    came_wrote c.args.store.now v _ (Element RemoveKey c.args.k) c.base_of.result _ _ c.requires.there c.remove-before.ensures.few c.base_of.ensures.base
     (c.remove-before.ensures.after)
     (ap Some (map_removal w v c.args.k c.requires.map ∙ sym (ap (λ b. removal (has_key c.args.k) (of_rows 0 (base_at w b).rows)) c.base_of.ensures.base)))
     (ap optional_text (ap (λ items. value_shown items c.args.k) (map_shown w v c.requires.map) ∙ sym (c.remove-before.ensures.reply ∙ ap (λ b. value_shown (base_at w b).rows c.args.k) c.base_of.ensures.base)))

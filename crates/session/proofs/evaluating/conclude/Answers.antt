@@ -1,11 +1,13 @@
-use Rattle.std.proofs.Common.{ℕ, List, [], ◌∷◌, ◌++◌, Ok, Err, sym, ◌∙◌, ap}
+use Rattle.std.proofs.Common.{Ok, Err, sym, ap}
 use Rattle.session.specs.Following.{end_in}
 use Rattle.session.proofs.EvalLemmas.{came_refused, came_to}
-use Rattle.session.proofs.ReplyLemmas.{said_text}
+use Rattle.session.proofs.ReplyLemmas.{said_refusal}
 use Rattle.session.proofs.evaluating.conclude.Goals as goal
 
 pub returns-in-Ok : goal.returns-in-Ok
 returns-in-Ok g c = came_to c.args.store.now _ (end_in c.args.store.now (Ok c.in-Ok.end)) _ (sym (ap (end_in c.args.store.now) c.in-Ok.is)) c.conclude_at.ensures
 
 pub returns-in-Err : goal.returns-in-Err
-returns-in-Err g c = came_to c.args.store.now _ (Err c.in-Err.refusal) _ (sym (ap (end_in c.args.store.now) c.in-Err.is)) (came_refused c.args.store.now c.in-Err.refusal c.requires.there (said_text _ _ (ap (λ (t : List ℕ). t ++ 10 ∷ []) (c.as_bytes.ensures.value ∙ c.name.ensures)) c.say.ensures))
+returns-in-Err g c =
+    let told = rw c.in-Err.is at c.requires.end in
+    came_to c.args.store.now _ (Err c.in-Err.refusal) _ (sym (ap (end_in c.args.store.now) c.in-Err.is)) (came_refused c.args.store.now c.in-Err.refusal c.requires.there (said_refusal c.in-Err.refusal told c.refuse.ensures))

@@ -1,0 +1,59 @@
+use Rattle.std.proofs.Common.{◌<◌, ℕ, List, length, refl, sym, ◌∙◌, ap, subst}
+use Rattle.std.specs.Option.{is_some, option_copied}
+use Rattle.std.specs.Prelude.{codes}
+use Rattle.base_store.specs.Stored.{view_in}
+use Rattle.session.specs.declared.typing.Purpose.TheVariants as purpose
+use Rattle.session.specs.Executing.{Executed}
+use Rattle.session.specs.Machine.{says, let_of}
+use Rattle.script_text.specs.Parts.{part_in}
+use Rattle.session.specs.Environment.{named, seen_as}
+use Rattle.session.specs.Parts.{Part, parts_in}
+use Rattle.std.proofs.lemmas.List.{length-map}
+use Rattle.session.specs.State.{State, view_named}
+use Rattle.session.specs.Typing.{typed_words}
+use Rattle.session.proofs.BindLemmas.{Led, executed_let, settled_kept}
+use Rattle.session.proofs.NameLemmas.{executed_said, found_within}
+use Rattle.session.proofs.SessionLemmas.{executed_from, executed_untyped, name_unknown}
+use Rattle.session.proofs.environment.Environment.bind.Given as given
+use Rattle.session.proofs.environment.Environment.bind.Goals as goal
+
+pub returns-in_default : goal.returns-in_default
+returns-in_default g c =
+    let s = c.self.inside.store in
+    let names = c.self.inside.names.entries in
+    let unknown = name_unknown s.nodes names c.args.head (sym c.get.ensures.value ∙ ap option_copied c.in_default.is) in
+    let none = ap (λ (x : State). view_named x.names c.args.head) (sym c.self.view_is) ∙ unknown in
+    executed_from c.args.self.now c.args.self.now _ (λ state. says state (codes "?name")) _ refl (sym (ap (λ o. let_of c.args.self.now c.args.name o (parts_in c.args.line.now c.args.parts.now)) none)) (executed_said _ _ _ _ _ _ (codes "?name") c.say.ensures)
+
+pub shape-requires : goal.shape-requires
+shape-requires g c =
+    subst (λ (n : ℕ). c.in-Some.head.now < n) (sym c.self.invariant.still) (found_within _ c.self.inside.names.entries c.args.head _ c.self.invariant.named_within (sym c.get.ensures.value ∙ ap option_copied c.in-Some.is))
+
+pub returns-then-not-is_typed : goal.returns-then-not-is_typed
+returns-then-not-is_typed g c =
+    let s = c.self.inside.store in
+    let untyped = sym (c.if-not-is_typed.ensures ∙ ap (λ of. is_some (typed_words purpose.Name of (parts_in c.args.line.now c.args.parts.now))) c.shape.ensures) in
+    subst (λ (x : State). Executed c.say-then-not-is_typed.result x x (let_of x c.args.name (view_named x.names c.args.head) (parts_in c.args.line.now c.args.parts.now)) (g.S.Sink.taken c.args.out.now) (g.S.Sink.taken c.say-then-not-is_typed.new.out) (g.S.Sink.faults c.args.out.now) (g.S.Sink.faults c.say-then-not-is_typed.new.out)) c.self.view_is
+    (executed_untyped s c.self.inside.names.entries c.args.name c.args.head c.in-Some.head.now (parts_in c.args.line.now c.args.parts.now) (sym c.get.ensures.value ∙ ap option_copied c.in-Some.is) untyped c.say-then-not-is_typed.ensures)
+
+pub follow-end-requires-clause-head : goal.follow-end-requires-clause-head
+follow-end-requires-clause-head g c =
+    subst (λ (n : ℕ). c.in-Some.head.now < n) (sym c.self.invariant.still) (found_within _ c.self.inside.names.entries c.args.head _ c.self.invariant.named_within (sym c.get.ensures.value ∙ ap option_copied c.in-Some.is))
+
+led : (g : given.Over) (c : goal.After-tell_kept g) → Led c.self.inside.store c.follow-end.new.store c.self.inside.names.entries c.follow-end.result
+led g c = record { settled = c.self.invariant; places = c.follow-end.ensures.places; front = c.follow-end.ensures.front; ends = c.follow-end.ensures.end }
+
+pub invariant_of-self : goal.invariant_of-self
+invariant_of-self g c = settled_kept _ _ _ c.self.inside.names.entries _ c.args.name _ _ _ (led g c) c.keep_end-kept.ensures
+
+pub returns : goal.returns
+returns g c =
+    subst (λ (x : State). Executed c.tell_kept.result x now (let_of x c.args.name (view_named x.names c.args.head) parts) (g.S.Sink.taken c.args.out.now) (g.S.Sink.taken c.tell_kept.new.out) (g.S.Sink.faults c.args.out.now) (g.S.Sink.faults c.tell_kept.new.out)) c.self.view_is
+    (executed_let c.self.inside.store c.follow-end.new.store c.keep_end-kept.new.store c.self.inside.names.entries c.keep_end-kept.new.names.entries c.args.name (length c.args.parts.now) c.args.head c.in-Some.head.now parts c.keep_end-kept.result c.follow-end.result
+    (sym (length-map c.args.parts.now (part_in c.args.line.now))) (sym c.get.ensures.value ∙ ap option_copied c.in-Some.is) (led g c) c.follow-end.ensures.led c.keep_end-kept.ensures c.tell_kept.ensures)
+  where
+    parts : List Part
+    parts = parts_in c.args.line.now c.args.parts.now
+
+    now : State
+    now = seen_as c.keep_end-kept.new.store (named c.keep_end-kept.new.store.nodes c.keep_end-kept.new.names.entries)
