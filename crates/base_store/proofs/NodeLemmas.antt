@@ -4,8 +4,8 @@ use Rattle.std.specs.Prelude.{slice_get, Some}
 use Rattle.std.proofs.lemmas.Option.{same_Some, slice_get-get_or, slice_get_within}
 use Rattle.std.proofs.lemmas.Bool.{cases_lt}
 use Rattle.std.proofs.lemmas.List.{get_or-append_right, get_or_append_left, get_or_push, append-nil}
-use Rattle.view_steps.specs.Views.{base, over}
-use Rattle.view_steps.specs.declared.steps.Step.{Step}
+use Rattle.map_views.specs.Views.{base, over}
+use Rattle.map_views.specs.declared.steps.Step.{Step}
 use Rattle.base_store.specs.Nodes.{IsBelow, view_at}
 use Rattle.base_store.proofs.ViewLemmas.{view_at-node, view_at-append}
 use Rattle.base_store.specs.Stored.{Place, Stored, IsBuilt, AllThere, view_in}

@@ -4,8 +4,8 @@ use Rattle.std.proofs.lemmas.List.{map-set, get_or-set_same, get_or-set_other, l
 use Rattle.std.proofs.lemmas.Bool.{cases_eq}
 use Rattle.std.proofs.Math.ListN.{get_or-map}
 use Rattle.std.specs.Prelude.{if◌then◌else◌}
-use Rattle.view_steps.specs.declared.items.Item.{Item}
-use Rattle.view_steps.specs.Views.{Base, base_at}
+use Rattle.map_views.specs.declared.items.Item.{Item}
+use Rattle.map_views.specs.Views.{Base, base_at}
 use Rattle.base_store.specs.Stored.{Place, Stored, world_of, base_in, no_place, place_at, away, there, with_rows, with_place, IsThere, IsAway, AllThere}
 
 set-set : {X : Type 0} (xs : List X) (i : ℕ) (x y : X) → set (set xs i x) i y ≡ set xs i y

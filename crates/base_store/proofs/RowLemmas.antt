@@ -1,7 +1,7 @@
 -- How many rows there are after a write to a place, and after another base came.
 use Rattle.std.proofs.Common.{◌≡◌, ℕ, ◌+◌, ◌-◌, ◌<◌, ◌≤◌, true, List, [], ◌∷◌, ◌++◌, length, set, ap, ◌∙◌, sym, subst, zero, suc, arith}
 use Rattle.std.proofs.lemmas.List.{map-append, length-set}
-use Rattle.view_steps.specs.Views.{Base, World, base_at}
+use Rattle.map_views.specs.Views.{Base, World, base_at}
 use Rattle.base_store.specs.Limits.{rows_in, most_rows, most_handles}
 use Rattle.base_store.specs.Nodes.{IsBelow}
 use Rattle.base_store.specs.declared.store.Made.{Made}

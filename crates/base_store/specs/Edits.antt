@@ -2,11 +2,11 @@
 use Rattle.std.specs.Prelude.{ℕ, ◌+◌, Bool, ◌||◌, nat_eq, nat_lt, List, [], ◌∷◌, length, fold, if◌then◌else◌}
 use Rattle.std.specs.List.{list_any}
 use Rattle.elem.specs.Elements.{same}
-use Rattle.view_steps.specs.declared.items.Item.{Item}
-use Rattle.view_steps.specs.declared.kinds.Kind.{Kind}
-use Rattle.view_steps.specs.declared.kinds.Kind.TheVariants.{LinkedHashMap}
-use Rattle.view_steps.specs.Items.{key_of}
-use Rattle.view_steps.specs.Views.{Base}
+use Rattle.map_views.specs.declared.items.Item.{Item}
+use Rattle.map_views.specs.declared.kinds.Kind.{Kind}
+use Rattle.map_views.specs.declared.kinds.Kind.TheVariants.{LinkedHashMap}
+use Rattle.map_views.specs.Items.{key_of}
+use Rattle.map_views.specs.Views.{Base}
 
 -- the numbers of the rows that go, and the rows that come, in order
 pub record Edit : Type 0 where

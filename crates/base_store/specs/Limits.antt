@@ -1,6 +1,6 @@
 -- How much a store holds at most.
 use Rattle.std.specs.Prelude.{ℕ, ◌+◌, List, [], ◌∷◌, length}
-use Rattle.view_steps.specs.Views.{World}
+use Rattle.map_views.specs.Views.{World}
 
 -- the rows of all bases together
 abbrev pub rows_in : World → ℕ

@@ -2,7 +2,7 @@
 use Rattle.std.specs.Prelude.{ℕ, ◌+◌, ◌<◌, List, [], ◌∷◌, ◌++◌, get_or, fold}
 use Rattle.base_store.specs.declared.store.Made.{Made}
 use Rattle.base_store.specs.declared.store.Made.TheVariants.{Base, Over}
-use Rattle.view_steps.specs.Views.{View, base, over}
+use Rattle.map_views.specs.Views.{View, base, over}
 
 -- the list of what is made of the nodes in turn, where `make at node` may ask for what stands before it
 abbrev pub made_of : {X : Type 0} → X → ((ℕ → X) → Made → X) → List Made → List X

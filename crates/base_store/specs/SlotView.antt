@@ -4,7 +4,7 @@ use Rattle.base_store.specs.declared.store.Slot.TheInside.{Inside}
 use Rattle.base_store.specs.declared.bases.Base.{Base}
 use Rattle.base_store.specs.Bases.{rows_of}
 use Rattle.base_store.specs.Stored.{Place}
-use Rattle.view_steps.specs.declared.items.Item.{Item}
+use Rattle.map_views.specs.declared.items.Item.{Item}
 
 abbrev pub rows_there : Option Base → List Item
 rows_there None = []

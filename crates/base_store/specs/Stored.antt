@@ -4,10 +4,10 @@ use Rattle.base_store.specs.declared.store.Made.{Made}
 use Rattle.base_store.specs.declared.store.Made.TheVariants as made
 use Rattle.base_store.specs.Limits.{rows_in, most_rows, most_handles}
 use Rattle.base_store.specs.Nodes.{IsBelow, view_at}
-use Rattle.view_steps.specs.declared.items.Item.{Item}
-use Rattle.view_steps.specs.declared.kinds.Kind.{Kind}
-use Rattle.view_steps.specs.declared.kinds.Kind.TheVariants.{LinkedHashMap}
-use Rattle.view_steps.specs.Views.{Base, World, View, empty_base}
+use Rattle.map_views.specs.declared.items.Item.{Item}
+use Rattle.map_views.specs.declared.kinds.Kind.{Kind}
+use Rattle.map_views.specs.declared.kinds.Kind.TheVariants.{LinkedHashMap}
+use Rattle.map_views.specs.Views.{Base, World, View, empty_base}
 
 -- a base, and whether it stands at its place
 pub record Place : Type 0 where

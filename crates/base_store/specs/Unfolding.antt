@@ -3,7 +3,7 @@ use Rattle.std.specs.Prelude.{◌≡◌, ℕ, ◌<◌, length}
 use Rattle.base_store.specs.declared.refs.Node.{Node}
 use Rattle.base_store.specs.declared.refs.Node.TheVariants as node
 use Rattle.base_store.specs.Stored.{Stored, view_in}
-use Rattle.view_steps.specs.Views.{base, over}
+use Rattle.map_views.specs.Views.{base, over}
 
 -- the view of a node, by how it was made: a base of the store, or a step over a node before it
 abbrev pub Unfolds : Stored → ℕ → Node → Type 0

@@ -3,7 +3,7 @@ ghost use Rattle.std.specs.Prelude.{◌≡◌, [], length, IfOk};
 use elem::{Elem, Keyed, NoMemory};
 use linked_base::LinkedMap;
 use std::alloc::Global;
-use view_steps::Kind;
+use map_views::Kind;
 
 /// The rows of a base, in the type of its kind.
 #[derive(Drop)]

@@ -5,14 +5,14 @@ ghost use Rattle.base_store.specs.Limits.{rows_in, most_rows, most_handles};
 ghost use Rattle.base_store.specs.Unfolding.{Unfolds};
 ghost use Rattle.base_store.specs.Nodes.{IsBelow};
 ghost use Rattle.base_store.specs.declared.store.Made.TheVariants.{Over as step_node};
-ghost use Rattle.view_steps.specs.Views.{base, over, base_at, base_under, path, shape_at, flags_at};
+ghost use Rattle.map_views.specs.Views.{base, over, base_at, base_under, path, shape_at, flags_at};
 
 use crate::{AnyRef, Base, BaseId, Node};
 use arrayvec::ArrayVec;
 use elem::NoMemory;
 use std::alloc::Global;
 use std::marker::Model;
-use view_steps::{Flags, Kind, Refusal, Shape, Step, apply, flags_after, shape_of_kind};
+use map_views::{Flags, Kind, Refusal, Shape, Step, apply, flags_after, shape_of_kind};
 
 /// A node, as it is kept: the base of a number, or a step over the node of a number.
 #[derive(Clone, Copy, Debug)]

@@ -5,10 +5,10 @@ use Rattle.std.specs.Map.{lookup}
 use Rattle.std.specs.Option.{option_map}
 use Rattle.std.proofs.lemmas.List.{take-append-drop}
 use Rattle.indexmap.specs.IndexMap.{insert_entry}
-use Rattle.view_steps.specs.declared.refusals.Refusal.{Refusal}
-use Rattle.view_steps.specs.declared.refusals.Refusal.TheVariants as refusal
-use Rattle.view_steps.specs.Refusals.{name_of}
-use Rattle.view_steps.specs.Views.{View, shape_at}
+use Rattle.map_views.specs.declared.refusals.Refusal.{Refusal}
+use Rattle.map_views.specs.declared.refusals.Refusal.TheVariants as refusal
+use Rattle.map_views.specs.Refusals.{name_of}
+use Rattle.map_views.specs.Views.{View, shape_at}
 use Rattle.base_store.specs.declared.store.Made.{Made}
 use Rattle.base_store.specs.Limits.{most_handles}
 use Rattle.base_store.specs.Nodes.{view_at}

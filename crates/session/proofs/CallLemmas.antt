@@ -4,19 +4,19 @@ use Rattle.std.specs.Prelude.{codes, if◌then◌else◌}
 use Rattle.std.proofs.lemmas.Bool.Decides.{nat_tests}
 use Rattle.elem.specs.Outside.{Stays}
 use Rattle.elem.specs.declared.elements.Elem.{Elem}
-use Rattle.view_steps.specs.declared.calls.Ask.{Ask as AskWord}
-use Rattle.view_steps.specs.declared.calls.Ask.TheVariants.{Size}
-use Rattle.view_steps.specs.declared.calls.Call.{Call}
-use Rattle.view_steps.specs.declared.calls.Call.TheVariants.{Ask, Pair}
-use Rattle.view_steps.specs.declared.calls.OnPair.{OnPair}
-use Rattle.view_steps.specs.declared.calls.OnPair.TheVariants.{Put}
-use Rattle.view_steps.specs.declared.refusals.Refusal.{Refusal}
-use Rattle.view_steps.specs.declared.refusals.Refusal.TheVariants.{Limit, UnsupportedOperation}
-use Rattle.view_steps.specs.declared.refusals.Refusal.TheVariants as refusal
-use Rattle.view_steps.specs.Refusals.{name_of}
-use Rattle.view_steps.specs.Calls.{fits, needs_of}
-use Rattle.view_steps.specs.Steps.{lacks}
-use Rattle.view_steps.specs.Views.{Base, World, View, base_at, base_under, candidates, flags_at, shape_at, shown}
+use Rattle.map_views.specs.declared.calls.Ask.{Ask as AskWord}
+use Rattle.map_views.specs.declared.calls.Ask.TheVariants.{Size}
+use Rattle.map_views.specs.declared.calls.Call.{Call}
+use Rattle.map_views.specs.declared.calls.Call.TheVariants.{Ask, Pair}
+use Rattle.map_views.specs.declared.calls.OnPair.{OnPair}
+use Rattle.map_views.specs.declared.calls.OnPair.TheVariants.{Put}
+use Rattle.map_views.specs.declared.refusals.Refusal.{Refusal}
+use Rattle.map_views.specs.declared.refusals.Refusal.TheVariants.{Limit, UnsupportedOperation}
+use Rattle.map_views.specs.declared.refusals.Refusal.TheVariants as refusal
+use Rattle.map_views.specs.Refusals.{name_of}
+use Rattle.map_views.specs.Calls.{fits, needs_of}
+use Rattle.map_views.specs.Steps.{lacks}
+use Rattle.map_views.specs.Views.{Base, World, View, base_at, base_under, candidates, flags_at, shape_at, shown}
 use Rattle.base_store.specs.Edits.{Edit, edited}
 use Rattle.base_store.specs.Limits.{rows_in, most_rows}
 use Rattle.base_store.specs.Stored.{Stored, AllThere, IsReady, world_of, there, with_place}

@@ -9,11 +9,11 @@ use Rattle.elem.specs.declared.elements.Elem.{Elem}
 use Rattle.elem.specs.Elements.{same}
 use Rattle.elem.specs.ElementLaws.{same-Decides}
 use Rattle.elem.specs.Keyed.{value_at, with_value, without}
-use Rattle.view_steps.specs.declared.items.Item.{Item}
-use Rattle.view_steps.specs.declared.items.Item.TheVariants.{Entry}
-use Rattle.view_steps.specs.declared.kinds.Kind.TheVariants.{LinkedHashMap}
-use Rattle.view_steps.specs.Items.{value_of}
-use Rattle.view_steps.specs.Views.{Base, Candidate, of_rows}
+use Rattle.map_views.specs.declared.items.Item.{Item}
+use Rattle.map_views.specs.declared.items.Item.TheVariants.{Entry}
+use Rattle.map_views.specs.declared.kinds.Kind.TheVariants.{LinkedHashMap}
+use Rattle.map_views.specs.Items.{value_of}
+use Rattle.map_views.specs.Views.{Base, Candidate, of_rows}
 use Rattle.base_store.specs.Bases.{entries, entry_of}
 use Rattle.base_store.specs.Edits.{Edit, goes, without_rows, placed, edited}
 use Rattle.base_store.specs.Stored.{with_rows}

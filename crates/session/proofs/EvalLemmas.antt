@@ -2,10 +2,10 @@
 use Rattle.std.proofs.Common.{◌≡◌, ℕ, false, List, [], ◌∷◌, ◌++◌, length, take, Option, None, Some, Result, Ok, Err, refl, sym, ◌∙◌, ap, subst}
 use Rattle.std.specs.Prelude.{codes}
 use Rattle.std.specs.Option.{is_some}
-use Rattle.view_steps.specs.declared.refusals.Refusal.{Refusal}
-use Rattle.view_steps.specs.Refusals.{name_of}
-use Rattle.view_steps.specs.Texts.{view_text}
-use Rattle.view_steps.specs.Views.{World, View, shape_at, shown}
+use Rattle.map_views.specs.declared.refusals.Refusal.{Refusal}
+use Rattle.map_views.specs.Refusals.{name_of}
+use Rattle.map_views.specs.Texts.{view_text}
+use Rattle.map_views.specs.Views.{World, View, shape_at, shown}
 use Rattle.base_store.specs.Stored.{Stored, Place, IsReady, world_of, view_in, without_temporary}
 use Rattle.session.specs.declared.faults.ExecFault.{ExecFault}
 use Rattle.session.specs.declared.following.End.{End}

@@ -2,10 +2,10 @@
 use Rattle.std.proofs.Common.{◌≡◌, ◌<◌, ◌≤◌, Bool, true, false, List, ◌∷◌, Option, None, Some, Ok, Err, cond, nat_lt, refl, sym, ◌∙◌, ap, arith}
 use Rattle.std.specs.Option.{is_some, IsSome}
 use Rattle.std.proofs.lemmas.Bool.Decides.{nat_tests}
-use Rattle.view_steps.specs.declared.calls.Call.{Call}
-use Rattle.view_steps.specs.declared.refusals.Refusal.TheVariants.{Limit}
-use Rattle.view_steps.specs.declared.steps.Step.{Step}
-use Rattle.view_steps.specs.Views.{World, View, over, path, shape_at}
+use Rattle.map_views.specs.declared.calls.Call.{Call}
+use Rattle.map_views.specs.declared.refusals.Refusal.TheVariants.{Limit}
+use Rattle.map_views.specs.declared.steps.Step.{Step}
+use Rattle.map_views.specs.Views.{World, View, over, path, shape_at}
 use Rattle.session.specs.declared.typing.Purpose.{Purpose}
 use Rattle.session.specs.Parts.{Part}
 use Rattle.session.specs.declared.typing.Typed.{Typed}

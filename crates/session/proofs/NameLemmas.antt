@@ -8,9 +8,9 @@ use Rattle.std.specs.Result.{is_err, IsOk}
 use Rattle.std.proofs.lemmas.List.{length-map, map-append}
 use Rattle.indexmap.specs.IndexMap.{insert_entry}
 use Rattle.std.proofs.lemmas.Bool.Decides.{nat_tests}
-use Rattle.view_steps.specs.declared.kinds.Kind.{Kind}
-use Rattle.view_steps.specs.declared.refusals.Refusal.TheVariants.{Limit}
-use Rattle.view_steps.specs.Views.{World, View, base, empty_base}
+use Rattle.map_views.specs.declared.kinds.Kind.{Kind}
+use Rattle.map_views.specs.declared.refusals.Refusal.TheVariants.{Limit}
+use Rattle.map_views.specs.Views.{World, View, base, empty_base}
 use Rattle.base_store.specs.declared.store.Made.{Made}
 use Rattle.base_store.specs.declared.store.Made.TheVariants as made
 use Rattle.base_store.specs.Nodes.{view_at}

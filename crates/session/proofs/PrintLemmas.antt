@@ -13,11 +13,11 @@ use Rattle.elem.specs.Spelling.{spelling}
 use Rattle.elem.proofs.RowsLemmas.{lookup_at, key_after_at}
 use Rattle.linked_base.proofs.KeyedLemmas.{distinct_without, none_left}
 use Rattle.base_store.specs.Bases.{entries, entry_of}
-use Rattle.view_steps.specs.declared.items.Item.{Item}
-use Rattle.view_steps.specs.declared.items.Item.TheVariants.{One}
-use Rattle.view_steps.specs.declared.shapes.Shape.{Shape}
-use Rattle.view_steps.specs.declared.shapes.Shape.TheVariants as shape
-use Rattle.view_steps.specs.Texts.{listed, item_text, opening, closing, view_text}
+use Rattle.map_views.specs.declared.items.Item.{Item}
+use Rattle.map_views.specs.declared.items.Item.TheVariants.{One}
+use Rattle.map_views.specs.declared.shapes.Shape.{Shape}
+use Rattle.map_views.specs.declared.shapes.Shape.TheVariants as shape
+use Rattle.map_views.specs.Texts.{listed, item_text, opening, closing, view_text}
 use Rattle.session.specs.Replying.{Goes, Pending}
 use Rattle.session.specs.Printing.{keys, items_of, item_of_key, value_text, separator}
 

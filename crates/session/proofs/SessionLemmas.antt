@@ -3,8 +3,8 @@ use Rattle.std.proofs.Common.{◌≡◌, ◌⊎◌, ℕ, false, List, [], ◌∷
 use Rattle.std.specs.Prelude.{codes}
 use Rattle.std.specs.Map.{lookup}
 use Rattle.std.specs.Option.{is_some, option_map}
-use Rattle.view_steps.specs.Kinds.{kind_named}
-use Rattle.view_steps.specs.Views.{View, shape_at}
+use Rattle.map_views.specs.Kinds.{kind_named}
+use Rattle.map_views.specs.Views.{View, shape_at}
 use Rattle.base_store.specs.declared.store.Made.{Made}
 use Rattle.base_store.specs.Nodes.{view_at}
 use Rattle.base_store.specs.Stored.{Stored, view_in, world_of}
@@ -25,10 +25,10 @@ use Rattle.session.specs.Replying.{Refuses, Said}
 use Rattle.session.specs.declared.typing.Purpose.TheVariants as purpose
 use Rattle.session.specs.Typing.{Typing, typed_words}
 use Rattle.base_store.specs.Limits.{most_handles}
-use Rattle.view_steps.specs.declared.kinds.Kind.{Kind}
-use Rattle.view_steps.specs.declared.refusals.Refusal.{Refusal}
-use Rattle.view_steps.specs.Refusals.{name_of}
-use Rattle.view_steps.specs.declared.refusals.Refusal.TheVariants as refusal
+use Rattle.map_views.specs.declared.kinds.Kind.{Kind}
+use Rattle.map_views.specs.declared.refusals.Refusal.{Refusal}
+use Rattle.map_views.specs.Refusals.{name_of}
+use Rattle.map_views.specs.declared.refusals.Refusal.TheVariants as refusal
 use Rattle.session.specs.State.{State, ChangesUpTo, view_named}
 use Rattle.session.proofs.CallLemmas.{calm_on, stays}
 use Rattle.session.proofs.NameLemmas.{executed_said, named_view, same_text, without_room}

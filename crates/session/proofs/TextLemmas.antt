@@ -8,16 +8,16 @@ use Rattle.script_text.specs.declared.lines.Slice.{Slice}
 use Rattle.script_text.specs.Parts.{so_many, part_in}
 use Rattle.script_text.specs.Trees.{Call, first_three, in_pieces, part_of, piece}
 use Rattle.script_text.proofs.PartTexts.{length-so_many}
-use Rattle.view_steps.specs.declared.calls.Call.{Call as AnyCall}
-use Rattle.view_steps.specs.declared.calls.Call.TheVariants as call
-use Rattle.view_steps.specs.declared.calls.CallForm.{CallForm}
-use Rattle.view_steps.specs.declared.calls.CallForm.TheVariants as call_form
-use Rattle.view_steps.specs.declared.shapes.Shape.{Shape}
-use Rattle.view_steps.specs.declared.words.Action.{Action}
-use Rattle.view_steps.specs.declared.words.Action.TheVariants as action
-use Rattle.view_steps.specs.Shapes.{sort_of}
-use Rattle.view_steps.specs.Views.{View, shape_at}
-use Rattle.view_steps.specs.Words.{signature}
+use Rattle.map_views.specs.declared.calls.Call.{Call as AnyCall}
+use Rattle.map_views.specs.declared.calls.Call.TheVariants as call
+use Rattle.map_views.specs.declared.calls.CallForm.{CallForm}
+use Rattle.map_views.specs.declared.calls.CallForm.TheVariants as call_form
+use Rattle.map_views.specs.declared.shapes.Shape.{Shape}
+use Rattle.map_views.specs.declared.words.Action.{Action}
+use Rattle.map_views.specs.declared.words.Action.TheVariants as action
+use Rattle.map_views.specs.Shapes.{sort_of}
+use Rattle.map_views.specs.Views.{View, shape_at}
+use Rattle.map_views.specs.Words.{signature}
 use Rattle.session.specs.declared.typing.Purpose.{Purpose}
 use Rattle.session.specs.declared.typing.Purpose.TheVariants as purpose
 use Rattle.session.specs.declared.typing.Typed.{Typed}

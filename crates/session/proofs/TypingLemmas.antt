@@ -1,7 +1,7 @@
 -- Steps before a typing leave whether there is one.
 use Rattle.std.proofs.Common.{◌≡◌, refl, Option, Some, None}
 use Rattle.std.specs.Option.{is_some}
-use Rattle.view_steps.specs.declared.steps.Step.{Step}
+use Rattle.map_views.specs.declared.steps.Step.{Step}
 use Rattle.session.specs.Typing.{Typing, before}
 
 pub is_some-before : (it : Step) (t : Option Typing) → is_some (before it t) ≡ is_some t

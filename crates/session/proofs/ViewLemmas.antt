@@ -7,20 +7,20 @@ use Rattle.elem.specs.declared.elements.Elem.{Elem}
 use Rattle.elem.specs.Elements.{same}
 use Rattle.elem.specs.Keyed.{value_at}
 use Rattle.base_store.specs.Bases.{entries, entry_of}
-use Rattle.view_steps.specs.declared.items.Item.{Item}
-use Rattle.view_steps.specs.declared.items.Item.TheVariants.{One}
-use Rattle.view_steps.specs.declared.kinds.Kind.{Kind}
-use Rattle.view_steps.specs.declared.kinds.Kind.TheVariants.{LinkedHashMap}
-use Rattle.view_steps.specs.declared.shapes.Shape.{Shape}
-use Rattle.view_steps.specs.declared.shapes.Shape.TheVariants as shape
-use Rattle.view_steps.specs.declared.steps.Needs.TheVariants.{Add}
-use Rattle.view_steps.specs.declared.steps.Step.TheVariants.{Plain}
-use Rattle.view_steps.specs.declared.steps.PlainStep.TheVariants.{KeySet}
-use Rattle.view_steps.specs.Calls.{is_set, is_map}
-use Rattle.view_steps.specs.Items.{key_of, value_of, same_item}
-use Rattle.view_steps.specs.Kinds.{shape_of_kind}
-use Rattle.view_steps.specs.Steps.{apply, item_of, lacks}
-use Rattle.view_steps.specs.Views.{World, View, base, over, Candidate, of_rows, changed, with_item, candidates, shown, item_in, is_seen, base_at, base_under, shape_after, shape_at, flags_at}
+use Rattle.map_views.specs.declared.items.Item.{Item}
+use Rattle.map_views.specs.declared.items.Item.TheVariants.{One}
+use Rattle.map_views.specs.declared.kinds.Kind.{Kind}
+use Rattle.map_views.specs.declared.kinds.Kind.TheVariants.{LinkedHashMap}
+use Rattle.map_views.specs.declared.shapes.Shape.{Shape}
+use Rattle.map_views.specs.declared.shapes.Shape.TheVariants as shape
+use Rattle.map_views.specs.declared.steps.Needs.TheVariants.{Add}
+use Rattle.map_views.specs.declared.steps.Step.TheVariants.{Plain}
+use Rattle.map_views.specs.declared.steps.PlainStep.TheVariants.{KeySet}
+use Rattle.map_views.specs.Calls.{is_set, is_map}
+use Rattle.map_views.specs.Items.{key_of, value_of, same_item}
+use Rattle.map_views.specs.Kinds.{shape_of_kind}
+use Rattle.map_views.specs.Steps.{apply, item_of, lacks}
+use Rattle.map_views.specs.Views.{World, View, base, over, Candidate, of_rows, changed, with_item, candidates, shown, item_in, is_seen, base_at, base_under, shape_after, shape_at, flags_at}
 use Rattle.session.specs.Calls.{has_key, value_shown, is_shown, rows_or_none, removal}
 use Rattle.session.specs.Printing.{keys, items_of}
 use Rattle.session.proofs.EntryLemmas.{value_shown-entries}

@@ -5,16 +5,16 @@ use Rattle.std.specs.Option.{option_map}
 use Rattle.elem.specs.declared.elements.Elem.{Elem}
 use Rattle.elem.specs.Elements.{same}
 use Rattle.base_store.specs.Edits.{Edit}
-use Rattle.view_steps.specs.declared.calls.Ask.TheVariants.{Size}
-use Rattle.view_steps.specs.declared.calls.OnElement.TheVariants.{Contains, Add, Remove, ValueOf, RemoveKey}
-use Rattle.view_steps.specs.declared.calls.OnPair.TheVariants.{Put}
-use Rattle.view_steps.specs.declared.calls.Call.{Call}
-use Rattle.view_steps.specs.declared.calls.Call.TheVariants.{Ask, Element, Pair}
-use Rattle.view_steps.specs.declared.items.Item.{Item}
-use Rattle.view_steps.specs.declared.items.Item.TheVariants.{One, Entry}
-use Rattle.view_steps.specs.Items.{key_of, value_of, same_item}
-use Rattle.view_steps.specs.Texts.{optional_text, truth_text}
-use Rattle.view_steps.specs.Views.{Candidate}
+use Rattle.map_views.specs.declared.calls.Ask.TheVariants.{Size}
+use Rattle.map_views.specs.declared.calls.OnElement.TheVariants.{Contains, Add, Remove, ValueOf, RemoveKey}
+use Rattle.map_views.specs.declared.calls.OnPair.TheVariants.{Put}
+use Rattle.map_views.specs.declared.calls.Call.{Call}
+use Rattle.map_views.specs.declared.calls.Call.TheVariants.{Ask, Element, Pair}
+use Rattle.map_views.specs.declared.items.Item.{Item}
+use Rattle.map_views.specs.declared.items.Item.TheVariants.{One, Entry}
+use Rattle.map_views.specs.Items.{key_of, value_of, same_item}
+use Rattle.map_views.specs.Texts.{optional_text, truth_text}
+use Rattle.map_views.specs.Views.{Candidate}
 
 abbrev pub has_key : Elem → Item → Bool
 has_key k item = same k (key_of item)

@@ -1,7 +1,7 @@
 -- What a put leaves of a map's rows, and whether it made a new one.
 use Rattle.std.specs.Prelude.{Bool, true, false, List, [], ◌∷◌, ◌++◌, Option, None, Some, Result, Ok, Err, is_some, if◌then◌else◌}
 use Rattle.elem.specs.declared.elements.Elem.{Elem}
-use Rattle.view_steps.specs.declared.refusals.Refusal.{Refusal}
+use Rattle.map_views.specs.declared.refusals.Refusal.{Refusal}
 use Rattle.elem.specs.Keyed.{value_at, with_value}
 
 -- the rows with v at the key k: in the place of the row of k, else last

@@ -7,7 +7,7 @@ use Rattle.session.specs.declared.faults.ExecFault.{ExecFault}
 use Rattle.session.specs.Executing.{Executed}
 use Rattle.session.specs.Machine.{Outcome}
 use Rattle.session.specs.State.{State}
-use Rattle.view_steps.specs.Views.{View}
+use Rattle.map_views.specs.Views.{View}
 
 -- the names with the views of their nodes
 abbrev pub named : List Made → List (List ℕ × ℕ) → List (List ℕ × View)

@@ -7,9 +7,9 @@ use Rattle.session.specs.declared.following.End.{End}
 use Rattle.session.specs.declared.following.End.TheVariants as end
 use Rattle.session.specs.declared.typing.Purpose.{Purpose}
 use Rattle.session.specs.Parts.{Part}
-use Rattle.view_steps.specs.declared.refusals.Refusal.{Refusal}
-use Rattle.view_steps.specs.declared.refusals.Refusal.TheVariants.{NoMemory}
-use Rattle.view_steps.specs.Views.{World, View, shape_at, path}
+use Rattle.map_views.specs.declared.refusals.Refusal.{Refusal}
+use Rattle.map_views.specs.declared.refusals.Refusal.TheVariants.{NoMemory}
+use Rattle.map_views.specs.Views.{World, View, shape_at, path}
 
 -- what the words lead to, from a view
 abbrev pub target : Purpose → World → View → List Part → Option (Result (View × Ending) Refusal)

@@ -1,16 +1,16 @@
 -- One line: its reply, and the state after it.
 use Rattle.std.specs.Prelude.{ℕ, ◌+◌, max, not, nat_lt, List, [], ◌∷◌, ◌++◌, length, Option, None, Some, Result, Ok, Err, codes, if◌then◌else◌}
-use Rattle.view_steps.specs.declared.calls.Call.{Call}
-use Rattle.view_steps.specs.declared.kinds.Kind.{Kind}
-use Rattle.view_steps.specs.declared.refusals.Refusal.{Refusal}
-use Rattle.view_steps.specs.declared.refusals.Refusal.TheVariants.{Limit, UnsupportedOperation}
-use Rattle.view_steps.specs.declared.steps.Step.{Step}
-use Rattle.view_steps.specs.Calls.{fits, needs_of}
-use Rattle.view_steps.specs.Kinds.{kind_named}
-use Rattle.view_steps.specs.Refusals.{name_of}
-use Rattle.view_steps.specs.Steps.{lacks}
-use Rattle.view_steps.specs.Texts.{view_text}
-use Rattle.view_steps.specs.Views.{World, View, base, over, path, candidates, shown, shape_at, flags_at, empty_base}
+use Rattle.map_views.specs.declared.calls.Call.{Call}
+use Rattle.map_views.specs.declared.kinds.Kind.{Kind}
+use Rattle.map_views.specs.declared.refusals.Refusal.{Refusal}
+use Rattle.map_views.specs.declared.refusals.Refusal.TheVariants.{Limit, UnsupportedOperation}
+use Rattle.map_views.specs.declared.steps.Step.{Step}
+use Rattle.map_views.specs.Calls.{fits, needs_of}
+use Rattle.map_views.specs.Kinds.{kind_named}
+use Rattle.map_views.specs.Refusals.{name_of}
+use Rattle.map_views.specs.Steps.{lacks}
+use Rattle.map_views.specs.Texts.{view_text}
+use Rattle.map_views.specs.Views.{World, View, base, over, path, candidates, shown, shape_at, flags_at, empty_base}
 use Rattle.base_store.specs.Edits.{Edit}
 use Rattle.base_store.specs.Limits.{rows_in, most_rows, most_handles}
 use Rattle.script_text.specs.Lines.{line_of}

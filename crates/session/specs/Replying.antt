@@ -3,9 +3,9 @@ use Rattle.std.specs.Prelude.{◌≡◌, ◌≢◌, ℕ, ◌≤◌, Bool, true, 
 use Rattle.elem.specs.Outside.{Takes, TakesFront, Stays, IsFront, Rose}
 use Rattle.session.specs.declared.faults.ExecFault.{ExecFault}
 use Rattle.session.specs.declared.faults.ExecFault.TheVariants.{WriteFault, NoMemory}
-use Rattle.view_steps.specs.declared.refusals.Refusal.{Refusal}
-use Rattle.view_steps.specs.declared.refusals.Refusal.TheVariants as refusal
-use Rattle.view_steps.specs.Refusals.{name_of}
+use Rattle.map_views.specs.declared.refusals.Refusal.{Refusal}
+use Rattle.map_views.specs.declared.refusals.Refusal.TheVariants as refusal
+use Rattle.map_views.specs.Refusals.{name_of}
 
 pub record Pending : Type 0 where
   pub bytes : List ℕ

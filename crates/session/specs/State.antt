@@ -2,7 +2,7 @@
 use Rattle.std.specs.Prelude.{ℕ, ◌≤◌, List, [], ◌∷◌, Option, nat_eq, slice_set, if◌then◌else◌}
 use Rattle.std.specs.Cmp.Lexicographic.{pointwise}
 use Rattle.std.specs.Map.{lookup}
-use Rattle.view_steps.specs.Views.{World, View, base_at, base_under}
+use Rattle.map_views.specs.Views.{World, View, base_at, base_under}
 use Rattle.base_store.specs.Edits.{Edit, edited}
 
 pub record State : Type 0 where

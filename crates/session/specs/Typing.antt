@@ -1,21 +1,21 @@
 -- The typing of the words behind a name, from left to right: steps, and then a view or a call, or the first fault.
 use Rattle.std.specs.Prelude.{ℕ, Bool, true, false, List, [], ◌∷◌, length, Option, None, Some, if◌then◌else◌}
 use Rattle.std.specs.Option.{option_map, option_and_then}
-use Rattle.view_steps.specs.declared.calls.Call.{Call}
-use Rattle.view_steps.specs.declared.calls.Call.TheVariants as call
-use Rattle.view_steps.specs.declared.calls.CallForm.{CallForm}
-use Rattle.view_steps.specs.declared.calls.CallForm.TheVariants as call_form
-use Rattle.view_steps.specs.declared.shapes.Shape.{Shape}
-use Rattle.view_steps.specs.declared.steps.Step.{Step}
-use Rattle.view_steps.specs.declared.steps.Step.TheVariants as step
-use Rattle.view_steps.specs.declared.steps.StepForm.{StepForm}
-use Rattle.view_steps.specs.declared.steps.StepForm.TheVariants as step_form
-use Rattle.view_steps.specs.declared.words.Action.{Action}
-use Rattle.view_steps.specs.declared.words.Action.TheVariants as action
-use Rattle.view_steps.specs.Shapes.{sort_of}
-use Rattle.view_steps.specs.Steps.{apply}
-use Rattle.view_steps.specs.Views.{shape_after}
-use Rattle.view_steps.specs.Words.{signature}
+use Rattle.map_views.specs.declared.calls.Call.{Call}
+use Rattle.map_views.specs.declared.calls.Call.TheVariants as call
+use Rattle.map_views.specs.declared.calls.CallForm.{CallForm}
+use Rattle.map_views.specs.declared.calls.CallForm.TheVariants as call_form
+use Rattle.map_views.specs.declared.shapes.Shape.{Shape}
+use Rattle.map_views.specs.declared.steps.Step.{Step}
+use Rattle.map_views.specs.declared.steps.Step.TheVariants as step
+use Rattle.map_views.specs.declared.steps.StepForm.{StepForm}
+use Rattle.map_views.specs.declared.steps.StepForm.TheVariants as step_form
+use Rattle.map_views.specs.declared.words.Action.{Action}
+use Rattle.map_views.specs.declared.words.Action.TheVariants as action
+use Rattle.map_views.specs.Shapes.{sort_of}
+use Rattle.map_views.specs.Steps.{apply}
+use Rattle.map_views.specs.Views.{shape_after}
+use Rattle.map_views.specs.Words.{signature}
 use Rattle.session.specs.Parts.{Part, elem_at}
 use Rattle.session.specs.declared.typing.Purpose.{Purpose}
 use Rattle.session.specs.declared.typing.Purpose.TheVariants as purpose

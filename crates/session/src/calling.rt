@@ -6,13 +6,13 @@ ghost use Rattle.session.specs.Machine.{called, carried_out};
 ghost use Rattle.session.specs.Replying.{Said};
 ghost use Rattle.session.specs.Calls.{reply_of};
 ghost use Rattle.session.specs.State.{ChangesUpTo};
-ghost use Rattle.view_steps.specs.Calls as spec;
-ghost use Rattle.view_steps.specs.Steps.{lacks};
-ghost use Rattle.view_steps.specs.Views.{flags_at, shape_at, shown};
-ghost use Rattle.view_steps.specs.declared.calls.Ask.TheVariants.{Size};
-ghost use Rattle.view_steps.specs.declared.calls.Call.TheVariants as call;
-ghost use Rattle.view_steps.specs.declared.calls.OnElement.TheVariants as on_element;
-ghost use Rattle.view_steps.specs.declared.calls.OnPair.TheVariants as on_pair;
+ghost use Rattle.map_views.specs.Calls as spec;
+ghost use Rattle.map_views.specs.Steps.{lacks};
+ghost use Rattle.map_views.specs.Views.{flags_at, shape_at, shown};
+ghost use Rattle.map_views.specs.declared.calls.Ask.TheVariants.{Size};
+ghost use Rattle.map_views.specs.declared.calls.Call.TheVariants as call;
+ghost use Rattle.map_views.specs.declared.calls.OnElement.TheVariants as on_element;
+ghost use Rattle.map_views.specs.declared.calls.OnPair.TheVariants as on_pair;
 
 use crate::entries::{map_at, put, remove};
 use crate::faults::ExecFault;
@@ -20,7 +20,7 @@ use crate::replies::{Reply, refuse, say, say_number, say_optional, say_truth};
 use base_store::{AnyRef, Store};
 use elem::{Elem, Keyed, Sink, Steps};
 use std::sync::ledger::Ledger;
-use view_steps::{Ask, Call, OnElement, OnPair, Refusal, fits, lacks, needs_of};
+use map_views::{Ask, Call, OnElement, OnPair, Refusal, fits, lacks, needs_of};
 
 /// Executes a call on the view of a node, where its views have it and its flags allow it.
 pub fn call_on<S: Sink, L: Ledger>(

@@ -5,18 +5,18 @@ ghost use Rattle.elem.specs.Keyed.{value_at};
 ghost use Rattle.base_store.specs.Bases.{entries, rows_of};
 ghost use Rattle.base_store.specs.Edits.{edited};
 ghost use Rattle.base_store.specs.Stored.{IsReady, IsThere, world_of, with_place, there, view_in};
-ghost use Rattle.view_steps.specs.Views.{base_at, base_under, of_rows};
-ghost use Rattle.view_steps.specs.declared.items.Item.TheVariants.{Entry};
+ghost use Rattle.map_views.specs.Views.{base_at, base_under, of_rows};
+ghost use Rattle.map_views.specs.declared.items.Item.TheVariants.{Entry};
 ghost use Rattle.session.specs.Calls.{addition, removal, has_key, value_shown};
 ghost use Rattle.session.specs.Entries.{put_in, made_new};
 ghost use Rattle.session.specs.State.{world_after};
-ghost use Rattle.view_steps.specs.declared.refusals.Refusal.TheVariants as refusals;
+ghost use Rattle.map_views.specs.declared.refusals.Refusal.TheVariants as refusals;
 
 use base_store::{AnyRef, Base, BaseId, Store};
 use elem::{Elem, Keyed, NoMemory, Steps};
 use linked_base::LinkedMap;
 use std::sync::ledger::Ledger;
-use view_steps::Refusal;
+use map_views::Refusal;
 
 /// The map under a node.
 pub fn map_at(store: &Store, n: AnyRef) -> &LinkedMap<Elem>

@@ -6,7 +6,7 @@ ghost use Rattle.session.specs.Parts.{parts_in};
 ghost use Rattle.session.specs.Executing.{Executed};
 ghost use Rattle.session.specs.Machine.{eval_of, let_of, new_of};
 ghost use Rattle.session.specs.State.{ChangesUpTo, empty, view_named};
-ghost use Rattle.view_steps.specs.Kinds as kinds;
+ghost use Rattle.map_views.specs.Kinds as kinds;
 
 use crate::evaluating::evaluate;
 use crate::faults::ExecFault;
@@ -20,7 +20,7 @@ use script_text::{KindName, Part};
 use std::alloc::Global;
 use std::marker::Model;
 use std::sync::ledger::Ledger;
-use view_steps::{Refusal, kind_named};
+use map_views::{Refusal, kind_named};
 
 /// Bases, and names that stand for views of them.
 #[derive(Drop)]
@@ -32,7 +32,7 @@ pub struct Environment {
 impl Model for Environment {
     ghost use Rattle.session.specs.State.{State};
     ghost use Rattle.std.specs.Coded.{codes};
-    ghost use Rattle.view_steps.specs.ViewCode.{view_code};
+    ghost use Rattle.map_views.specs.ViewCode.{view_code};
 
     ghost Value = { State };
 

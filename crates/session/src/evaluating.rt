@@ -17,7 +17,7 @@ use base_store::{AnyRef, Store};
 use elem::{Sink, Steps};
 use script_text::Part;
 use std::sync::ledger::Ledger;
-use view_steps::Refusal;
+use map_views::Refusal;
 
 /// Evaluates the words behind a name: they lead to a view that is printed, or to a call on one.
 pub fn evaluate<S: Sink, L: Ledger>(

@@ -1,7 +1,7 @@
 //! Following the words of an expression, step by step.
 ghost use Rattle.std.specs.Prelude.{◌≡◌, ◌<◌, length, IsSome, Some};
 ghost use Rattle.base_store.specs.Stored.{world_of, view_in, without_temporary};
-ghost use Rattle.view_steps.specs.Views.{shape_at};
+ghost use Rattle.map_views.specs.Views.{shape_at};
 ghost use Rattle.session.specs.Typing.{typed_words};
 ghost use Rattle.session.specs.Following.{IsEnd, end_in, node_of, target};
 ghost use Rattle.session.specs.Parts.{parts_in};
@@ -9,7 +9,7 @@ ghost use Rattle.session.specs.Parts.{parts_in};
 use crate::typing::{Purpose, Typed, may_call, type_word};
 use base_store::{AnyRef, Store};
 use script_text::Part;
-use view_steps::{Call, Refusal};
+use map_views::{Call, Refusal};
 
 /// The longest path of steps.
 const MOST_STEPS: usize = 32;

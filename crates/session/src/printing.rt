@@ -4,8 +4,8 @@ ghost use Rattle.elem.specs.Keyed.{IsPresent};
 ghost use Rattle.base_store.specs.Stored.{IsReady, world_of, view_in};
 ghost use Rattle.session.specs.Printing.{items_of, item_of_key, separator};
 ghost use Rattle.session.specs.Replying.{Goes, Said};
-ghost use Rattle.view_steps.specs.Texts as text;
-ghost use Rattle.view_steps.specs.Views.{shape_at, shown};
+ghost use Rattle.map_views.specs.Texts as text;
+ghost use Rattle.map_views.specs.Views.{shape_at, shown};
 
 use crate::entries::map_at;
 use crate::faults::ExecFault;
@@ -14,7 +14,7 @@ use base_store::{AnyRef, Store};
 use elem::{Elem, Keyed, Sink, Steps, write_elem};
 use linked_base::LinkedMap;
 use std::sync::ledger::Ledger;
-use view_steps::Shape;
+use map_views::Shape;
 
 /// Says the text of a view.
 pub fn print<S: Sink, L: Ledger>(

@@ -2,14 +2,14 @@
 ghost use Rattle.std.specs.Prelude.{◌≡◌, ◌++◌, ◌∷◌, [], decimal};
 ghost use Rattle.std.specs.Bool.{OnFalse, OnTrue};
 ghost use Rattle.session.specs.Replying.{Goes, Refuses, Said, nothing_pending, with_piece, flushed, sent_result};
-ghost use Rattle.view_steps.specs.Texts.{optional_text, truth_text};
+ghost use Rattle.map_views.specs.Texts.{optional_text, truth_text};
 
 use crate::faults::ExecFault;
 use arrayvec::ArrayVec;
 use elem::{Elem, Sink, write_elem};
 use itoa::Buffer;
 use std::marker::Model;
-use view_steps::Refusal;
+use map_views::Refusal;
 
 /// A reply on its way to the sink: it goes there in one piece where it is short, in pieces of at most 4 KiB where it is
 /// not. After a failure of the sink nothing more goes there, until the next reply is begun.

@@ -30,7 +30,7 @@ pub struct Session {
 impl Model for Session {
     ghost use Rattle.session.specs.State.{State};
     ghost use Rattle.std.specs.Coded.{codes};
-    ghost use Rattle.view_steps.specs.ViewCode.{view_code};
+    ghost use Rattle.map_views.specs.ViewCode.{view_code};
 
     ghost Value = { State };
 

@@ -4,11 +4,11 @@ ghost use Rattle.script_text.specs.Parts.{part_in};
 ghost use Rattle.session.specs.Parts.{elem_at, parts_in};
 ghost use Rattle.session.specs.Typing as spec;
 ghost use Rattle.std.specs.Option.{option_map, option_and_then};
-ghost use Rattle.view_steps.specs.declared.calls.Call.TheVariants as call;
+ghost use Rattle.map_views.specs.declared.calls.Call.TheVariants as call;
 
 use elem::{Elem, read_elem};
 use script_text::Part;
-use view_steps::{
+use map_views::{
     Action, Call, CallForm, OnElement, OnPair, Shape, Step, StepForm, apply, signature, sort_of,
 };
 

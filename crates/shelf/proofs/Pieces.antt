@@ -2,7 +2,7 @@
 use Rattle.std.proofs.Common.{◌≡◌, ℕ, ◌+◌, ◌≤◌, Bool, List, [], ◌∷◌, ◌++◌, length, Option, None, Some, Result, Ok, Err, OnOk, OnErr, cond, refl, sym, ◌∙◌, ap, subst, append_assoc, arith, length-append}
 use Rattle.std.proofs.lemmas.List.{append-nil, take_all}
 use Rattle.elem.specs.Outside.{Takes, Stays}
-use Rattle.view_steps.specs.Views.{Base}
+use Rattle.map_views.specs.Views.{Base}
 use Rattle.session.specs.State.{State, ChangesUpTo}
 use Rattle.session.specs.Machine.{step, step_of}
 use Rattle.session.specs.Machine.{written}

@@ -1,8 +1,8 @@
 use Rattle.std.proofs.Common.{sym, ◌∙◌, ap}
 use Rattle.base_store.specs.Stored.{world_of, view_in}
-use Rattle.view_steps.specs.Calls.{fits}
-use Rattle.view_steps.specs.Steps.{lacks}
-use Rattle.view_steps.specs.Views.{flags_at}
+use Rattle.map_views.specs.Calls.{fits}
+use Rattle.map_views.specs.Steps.{lacks}
+use Rattle.map_views.specs.Views.{flags_at}
 use Rattle.session.proofs.CallLemmas.{came_unfit, came_lacking, came_allowed}
 use Rattle.session.proofs.calling.call_on.Goals as goal
 

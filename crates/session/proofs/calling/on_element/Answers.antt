@@ -1,11 +1,11 @@
 use Rattle.std.proofs.Common.{◌≡◌, true, false, refl, sym, ◌∙◌, ap}
 use Rattle.base_store.specs.Stored.{world_of, view_in}
-use Rattle.view_steps.specs.declared.calls.OnElement.{OnElement}
-use Rattle.view_steps.specs.declared.calls.OnElement.TheVariants.{Contains, Remove, ValueOf, RemoveKey}
-use Rattle.view_steps.specs.declared.calls.Call.TheVariants.{Element}
-use Rattle.view_steps.specs.Calls.{fits, needs_of}
-use Rattle.view_steps.specs.Steps.{lacks}
-use Rattle.view_steps.specs.Views.{flags_at, shape_at}
+use Rattle.map_views.specs.declared.calls.OnElement.{OnElement}
+use Rattle.map_views.specs.declared.calls.OnElement.TheVariants.{Contains, Remove, ValueOf, RemoveKey}
+use Rattle.map_views.specs.declared.calls.Call.TheVariants.{Element}
+use Rattle.map_views.specs.Calls.{fits, needs_of}
+use Rattle.map_views.specs.Steps.{lacks}
+use Rattle.map_views.specs.Views.{flags_at, shape_at}
 use Rattle.session.proofs.CallLemmas.{came_read, came_of}
 use Rattle.session.proofs.ViewLemmas.{set_lacks_add}
 use Rattle.session.proofs.calling.on_element.Goals as goal

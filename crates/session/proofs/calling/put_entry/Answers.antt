@@ -1,10 +1,10 @@
 use Rattle.std.proofs.Common.{refl, sym, ◌∙◌, ap}
 use Rattle.base_store.specs.Stored.{world_of, view_in}
-use Rattle.view_steps.specs.declared.calls.OnPair.TheVariants.{Put}
-use Rattle.view_steps.specs.declared.calls.Call.TheVariants.{Pair}
-use Rattle.view_steps.specs.declared.items.Item.TheVariants.{Entry}
-use Rattle.view_steps.specs.Texts.{optional_text}
-use Rattle.view_steps.specs.Views.{base_at}
+use Rattle.map_views.specs.declared.calls.OnPair.TheVariants.{Put}
+use Rattle.map_views.specs.declared.calls.Call.TheVariants.{Pair}
+use Rattle.map_views.specs.declared.items.Item.TheVariants.{Entry}
+use Rattle.map_views.specs.Texts.{optional_text}
+use Rattle.map_views.specs.Views.{base_at}
 use Rattle.session.specs.Calls.{addition, value_shown}
 use Rattle.session.proofs.CallLemmas.{came_refusal, came_wrote, room_left}
 use Rattle.session.proofs.ViewLemmas.{map_shown}

@@ -1,10 +1,10 @@
 use Rattle.std.proofs.Common.{Some, sym, ◌∙◌, ap}
 use Rattle.std.specs.Option.{is_some}
 use Rattle.base_store.specs.Stored.{world_of, view_in}
-use Rattle.view_steps.specs.declared.calls.OnElement.TheVariants.{Remove}
-use Rattle.view_steps.specs.declared.calls.Call.TheVariants.{Element}
-use Rattle.view_steps.specs.Texts.{truth_text}
-use Rattle.view_steps.specs.Views.{base_at, of_rows}
+use Rattle.map_views.specs.declared.calls.OnElement.TheVariants.{Remove}
+use Rattle.map_views.specs.declared.calls.Call.TheVariants.{Element}
+use Rattle.map_views.specs.Texts.{truth_text}
+use Rattle.map_views.specs.Views.{base_at, of_rows}
 use Rattle.session.specs.Calls.{has_key, removal, value_shown}
 use Rattle.session.proofs.CallLemmas.{came_wrote, room_left}
 use Rattle.session.proofs.ViewLemmas.{key_shown, set_removal}

@@ -1,7 +1,7 @@
 use Rattle.std.proofs.Common.{Bool, ◌++◌, ◌∷◌, [], sym, ◌∙◌, ap}
 use Rattle.std.specs.Option.{is_some}
 use Rattle.base_store.specs.Stored.{world_of, view_in}
-use Rattle.view_steps.specs.Texts.{truth_text}
+use Rattle.map_views.specs.Texts.{truth_text}
 use Rattle.session.proofs.ReplyLemmas.{said_text}
 use Rattle.session.proofs.ViewLemmas.{key_shown, value_under}
 use Rattle.session.proofs.calling.tell_contains.Goals as goal

@@ -1,8 +1,8 @@
 use Rattle.std.proofs.Common.{Option, List, ◌++◌, ◌∷◌, [], sym, ◌∙◌, ap}
 use Rattle.elem.specs.declared.elements.Elem.{Elem}
 use Rattle.base_store.specs.Stored.{world_of, view_in}
-use Rattle.view_steps.specs.declared.items.Item.{Item}
-use Rattle.view_steps.specs.Texts.{optional_text}
+use Rattle.map_views.specs.declared.items.Item.{Item}
+use Rattle.map_views.specs.Texts.{optional_text}
 use Rattle.session.specs.Calls.{value_shown}
 use Rattle.session.proofs.ReplyLemmas.{said_text}
 use Rattle.session.proofs.ViewLemmas.{map_shown, value_under}

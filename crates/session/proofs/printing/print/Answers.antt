@@ -1,8 +1,8 @@
 use Rattle.std.proofs.Common.{◌≡◌, ◌++◌, ◌∷◌, [], map, sym, ◌∙◌, ap}
-use Rattle.view_steps.specs.declared.shapes.Shape.{Shape}
-use Rattle.view_steps.specs.Texts as text
+use Rattle.map_views.specs.declared.shapes.Shape.{Shape}
+use Rattle.map_views.specs.Texts as text
 use Rattle.base_store.specs.Stored.{world_of, view_in}
-use Rattle.view_steps.specs.Views.{shape_at, shown}
+use Rattle.map_views.specs.Views.{shape_at, shown}
 use Rattle.session.specs.Printing.{items_of}
 use Rattle.session.proofs.PrintLemmas.{text_in_parts}
 use Rattle.session.proofs.ReplyLemmas.{goes_more, said_of, said_text}

@@ -1,5 +1,5 @@
 use Rattle.std.proofs.Common.{ℕ, List, sym, ◌∙◌, ap, arith}
-use Rattle.view_steps.specs.Texts.{listed}
+use Rattle.map_views.specs.Texts.{listed}
 use Rattle.session.proofs.PrintLemmas.{first_key-drop, key_present, next_key, more_said, no_key, all_said}
 use Rattle.session.proofs.ReplyLemmas.{goes_none, goes_more, goes_text}
 use Rattle.session.proofs.printing.write_items.Goals as goal

@@ -1,8 +1,8 @@
 use Rattle.std.proofs.Common.{Option, List, ℕ, sym, ◌∙◌, ap}
 use Rattle.script_text.specs.Parts.{part_in}
-use Rattle.view_steps.specs.declared.words.Action.{Action}
-use Rattle.view_steps.specs.Shapes.{sort_of}
-use Rattle.view_steps.specs.Words.{signature}
+use Rattle.map_views.specs.declared.words.Action.{Action}
+use Rattle.map_views.specs.Shapes.{sort_of}
+use Rattle.map_views.specs.Words.{signature}
 use Rattle.session.specs.Typing.{acting}
 use Rattle.session.proofs.TextLemmas.{typed_by}
 use Rattle.session.proofs.typing.type_word.Goals as goal

@@ -1,6 +1,6 @@
 use Rattle.std.proofs.Common.{Some, refl, sym, ◌∙◌, ap}
 use Rattle.std.specs.Prelude.{codes}
-use Rattle.view_steps.specs.Kinds.{kind_named}
+use Rattle.map_views.specs.Kinds.{kind_named}
 use Rattle.session.specs.Machine.{says, new_of}
 use Rattle.session.proofs.NameLemmas.{Added, executed_new, executed_said, ok_at, ok_part, settled_more}
 use Rattle.session.proofs.SessionLemmas.{executed_from, executed_full, executed_no_memory, seen_same}

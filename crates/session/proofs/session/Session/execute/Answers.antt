@@ -5,7 +5,7 @@ use Rattle.script_text.specs.Names.{kind_text}
 use Rattle.session.specs.Machine.{says, new_of, let_of, eval_of}
 use Rattle.session.specs.Parts.{parts_in}
 use Rattle.session.specs.State.{view_named}
-use Rattle.view_steps.specs.Kinds.{kind_named}
+use Rattle.map_views.specs.Kinds.{kind_named}
 use Rattle.session.proofs.NameLemmas.{executed_said}
 use Rattle.session.proofs.SessionLemmas.{executed_blank, executed_from, on_blank, on_long, on_syntax, on_it, on_new, on_let, on_eval}
 use Rattle.session.proofs.session.Session.execute.Goals as goal

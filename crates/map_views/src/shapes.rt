@@ -1,5 +1,5 @@
 ghost use Rattle.std.specs.Prelude.{◌≡◌};
-ghost use Rattle.view_steps.specs.Shapes as spec;
+ghost use Rattle.map_views.specs.Shapes as spec;
 
 /// What a view is to its caller: the interface of Guava or `java.util` that it has.
 #[derive(Clone, Copy, Debug)]

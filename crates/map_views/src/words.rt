@@ -1,6 +1,6 @@
 //! The table of words, in parts: each part has the words that some sorts of view share. A word is one line here.
 ghost use Rattle.std.specs.Prelude.{◌≡◌, map};
-ghost use Rattle.view_steps.specs.Words as spec;
+ghost use Rattle.map_views.specs.Words as spec;
 
 use crate::{Ask, CallForm as On, OnElement, OnPair, PlainStep, Sort, StepForm as By};
 

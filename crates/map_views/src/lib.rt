@@ -1,8 +1,9 @@
-//! The views of the plain machine: the shapes of views, the steps that lead from one view to the next, the words of
-//! the script language that name steps and calls, and, in `specs/`, what a view shows.
+//! The views of a linked map: the map itself and its set of keys, with the words of the script language that name
+//! them, and, in `specs/`, what they show.
 //!
 //! A view stores nothing. It is a base, or a step over a view, and what it shows is a function of the rows of its
-//! base at the moment of the call.
+//! base at the moment of the call. Sessions stand on this small vocabulary until they read and write through the
+//! whole table of steps, which is the crate `view_steps`.
 #![tactic(auto)]
 
 mod calls;

@@ -1,16 +1,16 @@
 -- The table of steps: the family of each, what it makes of an item, the shape that it gives, and what it allows.
 use Rattle.std.specs.Prelude.{Bool, false, not, Option, None, Some}
-use Rattle.view_steps.specs.declared.items.Item.{Item}
-use Rattle.view_steps.specs.declared.items.Item.TheVariants.{One}
-use Rattle.view_steps.specs.declared.shapes.Shape.{Shape}
-use Rattle.view_steps.specs.declared.shapes.Shape.TheVariants as shape
-use Rattle.view_steps.specs.declared.steps.PlainStep.TheVariants.{KeySet}
-use Rattle.view_steps.specs.declared.steps.Step.{Step}
-use Rattle.view_steps.specs.declared.steps.Step.TheVariants.{Plain}
-use Rattle.view_steps.specs.declared.steps.Flags.{Flags}
-use Rattle.view_steps.specs.declared.steps.Needs.{Needs}
-use Rattle.view_steps.specs.declared.steps.Needs.TheVariants as needs
-use Rattle.view_steps.specs.Items.{key_of}
+use Rattle.map_views.specs.declared.items.Item.{Item}
+use Rattle.map_views.specs.declared.items.Item.TheVariants.{One}
+use Rattle.map_views.specs.declared.shapes.Shape.{Shape}
+use Rattle.map_views.specs.declared.shapes.Shape.TheVariants as shape
+use Rattle.map_views.specs.declared.steps.PlainStep.TheVariants.{KeySet}
+use Rattle.map_views.specs.declared.steps.Step.{Step}
+use Rattle.map_views.specs.declared.steps.Step.TheVariants.{Plain}
+use Rattle.map_views.specs.declared.steps.Flags.{Flags}
+use Rattle.map_views.specs.declared.steps.Needs.{Needs}
+use Rattle.map_views.specs.declared.steps.Needs.TheVariants as needs
+use Rattle.map_views.specs.Items.{key_of}
 
 -- the families of steps: `changed` makes each item of the view below another
 pub data Family : Type 0 where

@@ -1,11 +1,11 @@
 -- The kinds of base: their names, their shapes, and which rows replace one another.
 use Rattle.std.specs.Prelude.{ℕ, false, nat_eq, List, [], ◌∷◌, Option, None, Some, if◌then◌else◌, map}
 use Rattle.std.specs.Cmp.Lexicographic.{pointwise}
-use Rattle.view_steps.specs.declared.kinds.Kind.{Kind}
-use Rattle.view_steps.specs.declared.kinds.Kind.TheVariants.{LinkedHashMap}
-use Rattle.view_steps.specs.declared.kinds.TheConstants.{KINDS}
-use Rattle.view_steps.specs.declared.shapes.Shape.{Shape}
-use Rattle.view_steps.specs.declared.shapes.Shape.TheVariants as shape
+use Rattle.map_views.specs.declared.kinds.Kind.{Kind}
+use Rattle.map_views.specs.declared.kinds.Kind.TheVariants.{LinkedHashMap}
+use Rattle.map_views.specs.declared.kinds.TheConstants.{KINDS}
+use Rattle.map_views.specs.declared.shapes.Shape.{Shape}
+use Rattle.map_views.specs.declared.shapes.Shape.TheVariants as shape
 
 -- the kind in the first row with this word
 unfoldable pub chosen : List ℕ → List (List ℕ × Kind) → Option Kind

@@ -1,14 +1,14 @@
 -- The calls on views: which shapes have them, and what they ask of their receiver.
 use Rattle.std.specs.Prelude.{Bool, true, false}
-use Rattle.view_steps.specs.declared.calls.Ask.TheVariants.{Size}
-use Rattle.view_steps.specs.declared.calls.OnElement.TheVariants.{Contains, Add, Remove, ValueOf, RemoveKey}
-use Rattle.view_steps.specs.declared.calls.OnPair.TheVariants.{Put}
-use Rattle.view_steps.specs.declared.calls.Call.{Call}
-use Rattle.view_steps.specs.declared.calls.Call.TheVariants.{Ask, Element, Pair}
-use Rattle.view_steps.specs.declared.shapes.Shape.{Shape}
-use Rattle.view_steps.specs.declared.shapes.Shape.TheVariants as shape
-use Rattle.view_steps.specs.declared.steps.Needs.{Needs}
-use Rattle.view_steps.specs.declared.steps.Needs.TheVariants as needs
+use Rattle.map_views.specs.declared.calls.Ask.TheVariants.{Size}
+use Rattle.map_views.specs.declared.calls.OnElement.TheVariants.{Contains, Add, Remove, ValueOf, RemoveKey}
+use Rattle.map_views.specs.declared.calls.OnPair.TheVariants.{Put}
+use Rattle.map_views.specs.declared.calls.Call.{Call}
+use Rattle.map_views.specs.declared.calls.Call.TheVariants.{Ask, Element, Pair}
+use Rattle.map_views.specs.declared.shapes.Shape.{Shape}
+use Rattle.map_views.specs.declared.shapes.Shape.TheVariants as shape
+use Rattle.map_views.specs.declared.steps.Needs.{Needs}
+use Rattle.map_views.specs.declared.steps.Needs.TheVariants as needs
 
 abbrev pub is_set : Shape → Bool
 is_set (shape.Set sorted) = true

@@ -1,6 +1,6 @@
 //! The table of steps: what each gives, and what it allows.
 ghost use Rattle.std.specs.Prelude.{◌≡◌};
-ghost use Rattle.view_steps.specs.Steps as spec;
+ghost use Rattle.map_views.specs.Steps as spec;
 
 use crate::Shape;
 

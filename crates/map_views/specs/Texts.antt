@@ -2,10 +2,10 @@
 use Rattle.std.specs.Prelude.{ℕ, Bool, true, false, List, [], ◌∷◌, ◌++◌, Option, None, Some, codes, map}
 use Rattle.elem.specs.declared.elements.Elem.{Elem}
 use Rattle.elem.specs.Spelling.{spelling}
-use Rattle.view_steps.specs.declared.items.Item.{Item}
-use Rattle.view_steps.specs.declared.items.Item.TheVariants.{One, Entry}
-use Rattle.view_steps.specs.declared.shapes.Shape.{Shape}
-use Rattle.view_steps.specs.declared.shapes.Shape.TheVariants as shape
+use Rattle.map_views.specs.declared.items.Item.{Item}
+use Rattle.map_views.specs.declared.items.Item.TheVariants.{One, Entry}
+use Rattle.map_views.specs.declared.shapes.Shape.{Shape}
+use Rattle.map_views.specs.declared.shapes.Shape.TheVariants as shape
 
 -- the texts, parted by `, `
 abbrev pub listed : List (List ℕ) → List ℕ

@@ -1,15 +1,15 @@
 -- The table of words: what a word with so many arguments does on a view of a sort.
 use Rattle.std.specs.Prelude.{ℕ, ◌&&◌, ◌==◌, nat_eq, List, [], ◌∷◌, Option, None, Some, if◌then◌else◌, map}
 use Rattle.std.specs.Cmp.Lexicographic.{pointwise}
-use Rattle.view_steps.specs.declared.calls.CallForm.TheVariants as call
-use Rattle.view_steps.specs.declared.shapes.Sort.{Sort}
-use Rattle.view_steps.specs.declared.shapes.Sort.TheVariants as sort
-use Rattle.view_steps.specs.declared.steps.StepForm.TheVariants as step
-use Rattle.view_steps.specs.declared.words.Action.{Action}
-use Rattle.view_steps.specs.declared.words.Action.TheVariants as action
-use Rattle.view_steps.specs.declared.words.Table.{Table}
-use Rattle.view_steps.specs.declared.words.Table.TheVariants as table
-use Rattle.view_steps.specs.declared.words.TheConstants.{MAPS, ELEMENTS, SIZED}
+use Rattle.map_views.specs.declared.calls.CallForm.TheVariants as call
+use Rattle.map_views.specs.declared.shapes.Sort.{Sort}
+use Rattle.map_views.specs.declared.shapes.Sort.TheVariants as sort
+use Rattle.map_views.specs.declared.steps.StepForm.TheVariants as step
+use Rattle.map_views.specs.declared.words.Action.{Action}
+use Rattle.map_views.specs.declared.words.Action.TheVariants as action
+use Rattle.map_views.specs.declared.words.Table.{Table}
+use Rattle.map_views.specs.declared.words.Table.TheVariants as table
+use Rattle.map_views.specs.declared.words.TheConstants.{MAPS, ELEMENTS, SIZED}
 
 -- a word's spelling, and what it does
 abbrev pub Row : Type 0

@@ -1,6 +1,6 @@
 //! The calls on views, by what they take.
 ghost use Rattle.std.specs.Prelude.{◌≡◌};
-ghost use Rattle.view_steps.specs.Calls as spec;
+ghost use Rattle.map_views.specs.Calls as spec;
 
 use crate::{Needs, Shape};
 use elem::Elem;

@@ -1,14 +1,14 @@
 -- What a view shows: its candidates, computed anew from the rows of its base. One list function for each family.
 use Rattle.std.specs.Prelude.{ℕ, ◌+◌, Bool, true, false, not, List, [], ◌∷◌, map, filter, get_or, Option}
-use Rattle.view_steps.specs.declared.items.Item.{Item}
-use Rattle.view_steps.specs.declared.kinds.Kind.{Kind}
-use Rattle.view_steps.specs.declared.kinds.Kind.TheVariants.{LinkedHashMap}
-use Rattle.view_steps.specs.declared.shapes.Shape.{Shape}
-use Rattle.view_steps.specs.declared.steps.Flags.{Flags}
-use Rattle.view_steps.specs.declared.steps.Step.{Step}
-use Rattle.view_steps.specs.Kinds.{shape_of_kind}
-use Rattle.view_steps.specs.Steps as table
-use Rattle.view_steps.specs.Steps.{Family, family_of, item_of}
+use Rattle.map_views.specs.declared.items.Item.{Item}
+use Rattle.map_views.specs.declared.kinds.Kind.{Kind}
+use Rattle.map_views.specs.declared.kinds.Kind.TheVariants.{LinkedHashMap}
+use Rattle.map_views.specs.declared.shapes.Shape.{Shape}
+use Rattle.map_views.specs.declared.steps.Flags.{Flags}
+use Rattle.map_views.specs.declared.steps.Step.{Step}
+use Rattle.map_views.specs.Kinds.{shape_of_kind}
+use Rattle.map_views.specs.Steps as table
+use Rattle.map_views.specs.Steps.{Family, family_of, item_of}
 use Rattle.std.specs.Option.{unwrap_or}
 
 -- a base: its kind, its rows in order, how often a row was added or removed, and whether it is frozen

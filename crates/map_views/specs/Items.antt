@@ -2,8 +2,8 @@
 use Rattle.std.specs.Prelude.{Bool, false, ◌&&◌}
 use Rattle.elem.specs.declared.elements.Elem.{Elem}
 use Rattle.elem.specs.Elements.{same}
-use Rattle.view_steps.specs.declared.items.Item.{Item}
-use Rattle.view_steps.specs.declared.items.Item.TheVariants.{One, Entry}
+use Rattle.map_views.specs.declared.items.Item.{Item}
+use Rattle.map_views.specs.declared.items.Item.TheVariants.{One, Entry}
 
 -- an element is its own key and its own value
 abbrev pub key_of : Item → Elem

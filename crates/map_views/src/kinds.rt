@@ -1,6 +1,6 @@
 //! The kinds of base, and their names.
 ghost use Rattle.std.specs.Prelude.{◌≡◌, map};
-ghost use Rattle.view_steps.specs.Kinds as spec;
+ghost use Rattle.map_views.specs.Kinds as spec;
 
 use crate::Shape;
 

@@ -1,6 +1,6 @@
 -- Each part of the table: the arm's equation, and what the look-up in that part ensures.
-use Rattle.view_steps.specs.Words.{rows_of}
-use Rattle.view_steps.proofs.words.in_table.Goals as goal
+use Rattle.map_views.specs.Words.{rows_of}
+use Rattle.map_views.proofs.words.in_table.Goals as goal
 
 pub returns-in-Maps : goal.returns-in-Maps
 unfolding rows_of
