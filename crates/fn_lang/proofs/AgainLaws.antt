@@ -15,14 +15,14 @@ use Rattle.fn_lang.specs.declared.leaves.Map.{Map}
 use Rattle.fn_lang.specs.declared.leaves.Map.TheVariants as maps
 use Rattle.fn_lang.specs.declared.parts.Part.{Part}
 use Rattle.fn_lang.specs.declared.parts.Part.TheVariants as parts
-use Rattle.fn_lang.specs.declared.steps.Sort.{Sort}
-use Rattle.fn_lang.specs.declared.steps.Sort.TheVariants as sorts
-use Rattle.fn_lang.specs.declared.steps.Given.{Given}
-use Rattle.fn_lang.specs.declared.steps.Given.TheVariants as given
-use Rattle.fn_lang.specs.declared.steps.Inner.TheVariants.{One, Two, Three}
+use Rattle.fn_lang.specs.declared.names.Sort.{Sort}
+use Rattle.fn_lang.specs.declared.names.Sort.TheVariants as sorts
+use Rattle.fn_lang.specs.declared.names.Given.{Given}
+use Rattle.fn_lang.specs.declared.names.Given.TheVariants as given
+use Rattle.fn_lang.specs.declared.names.Inner.TheVariants.{One, Two, Three}
 use Rattle.fn_lang.specs.declared.steps.Want.{Want}
 use Rattle.fn_lang.specs.declared.steps.Want.TheVariants as wants
-use Rattle.fn_lang.specs.declared.steps.Shape.TheVariants as shapes
+use Rattle.fn_lang.specs.declared.names.Shape.TheVariants as shapes
 use Rattle.fn_lang.specs.Trees.{PredTree, PairTree, FuncTree, One as Single, And, Or, Not, OfKey, OfValue, Both, Either, Neither, Leaf, Then, When, pred_parts, pair_parts, func_parts}
 use Rattle.fn_lang.specs.Grammar.{applied, with_comma, IsAlone, SpellsTest, SpellsMap, SpellsPred, SpellsPair, SpellsFunc}
 use Rattle.fn_lang.specs.Reading.{shape_of, pred_shape, pair_shape, func_shape, given_part, parse, is_open}

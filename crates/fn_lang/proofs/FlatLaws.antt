@@ -4,13 +4,13 @@ use Rattle.std.specs.Prelude.{replicate, nat_lt}
 use Rattle.std.proofs.lemmas.Bool.Decides.{nat_tests}
 use Rattle.std.proofs.lemmas.List.{drop-replicate, take_at, take_all, length-replicate}
 use Rattle.elem.specs.Lexing.{lexed}
-use Rattle.fn_lang.specs.declared.steps.Sort.{Sort}
+use Rattle.fn_lang.specs.declared.names.Sort.{Sort}
 use Rattle.fn_lang.specs.declared.steps.Want.TheVariants as wants
 use Rattle.elem.specs.Lexing.{kinds_of}
 use Rattle.elem.specs.declared.lexing.Lexeme.{Lexeme}
 use Rattle.elem.specs.declared.tokens.Token.{Token}
 use Rattle.fn_lang.specs.declared.faults.FnFault.TheVariants.{NotGrammar, TooLarge}
-use Rattle.fn_lang.specs.declared.steps.Sort.TheVariants as sorts
+use Rattle.fn_lang.specs.declared.names.Sort.TheVariants as sorts
 use Rattle.fn_lang.specs.Grammar.{is_padded}
 use Rattle.fn_lang.specs.Reading.{parse_all, parts_of, reading}
 use Rattle.fn_lang.proofs.FoundLaws.{Reads, some_parts, parsed_reads}

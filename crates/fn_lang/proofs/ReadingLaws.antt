@@ -9,8 +9,8 @@ use Rattle.elem.proofs.LexingLaws.{lexed_spells, spells_lexed}
 use Rattle.fn_lang.specs.declared.faults.FnFault.{FnFault}
 use Rattle.fn_lang.specs.declared.faults.FnFault.TheVariants.{NotGrammar, TooLarge}
 use Rattle.fn_lang.specs.declared.parts.Part.{Part}
-use Rattle.fn_lang.specs.declared.steps.Sort.{Sort}
-use Rattle.fn_lang.specs.declared.steps.Sort.TheVariants as sorts
+use Rattle.fn_lang.specs.declared.names.Sort.{Sort}
+use Rattle.fn_lang.specs.declared.names.Sort.TheVariants as sorts
 use Rattle.fn_lang.specs.declared.steps.Want.TheVariants as wants
 use Rattle.fn_lang.specs.Trees.{PredTree, PairTree, FuncTree, pred_parts, pair_parts, func_parts}
 use Rattle.fn_lang.specs.Grammar.{HasTokens, is_padded, IsPredText, IsPairText, IsFuncText}

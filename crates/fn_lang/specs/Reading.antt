@@ -12,16 +12,16 @@ use Rattle.fn_lang.specs.declared.leaves.Test.TheVariants as tests
 use Rattle.fn_lang.specs.declared.leaves.Map.TheVariants as maps
 use Rattle.fn_lang.specs.declared.parts.Part.{Part}
 use Rattle.fn_lang.specs.declared.parts.Part.TheVariants as parts
-use Rattle.fn_lang.specs.declared.steps.Sort.{Sort}
-use Rattle.fn_lang.specs.declared.steps.Sort.TheVariants as sorts
-use Rattle.fn_lang.specs.declared.steps.Given.{Given}
-use Rattle.fn_lang.specs.declared.steps.Given.TheVariants as given
-use Rattle.fn_lang.specs.declared.steps.Inner.{Inner}
-use Rattle.fn_lang.specs.declared.steps.Inner.TheVariants.{One, Two, Three}
+use Rattle.fn_lang.specs.declared.names.Sort.{Sort}
+use Rattle.fn_lang.specs.declared.names.Sort.TheVariants as sorts
+use Rattle.fn_lang.specs.declared.names.Given.{Given}
+use Rattle.fn_lang.specs.declared.names.Given.TheVariants as given
+use Rattle.fn_lang.specs.declared.names.Inner.{Inner}
+use Rattle.fn_lang.specs.declared.names.Inner.TheVariants.{One, Two, Three}
 use Rattle.fn_lang.specs.declared.steps.Want.{Want}
 use Rattle.fn_lang.specs.declared.steps.Want.TheVariants as wants
-use Rattle.fn_lang.specs.declared.steps.Shape.{Shape}
-use Rattle.fn_lang.specs.declared.steps.Shape.TheVariants as shapes
+use Rattle.fn_lang.specs.declared.names.Shape.{Shape}
+use Rattle.fn_lang.specs.declared.names.Shape.TheVariants as shapes
 use Rattle.fn_lang.specs.declared.steps.Step.{Step}
 use Rattle.fn_lang.specs.declared.faults.FnFault.{FnFault}
 use Rattle.fn_lang.specs.Grammar.{is_padded}

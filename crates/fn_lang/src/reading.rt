@@ -10,7 +10,8 @@ ghost use Rattle.fn_lang.specs.declared.parts.Part.{Part as AnyPart};
 
 use crate::faults::FnFault;
 use crate::parts::Part;
-use crate::steps::{Sort, Want, is_open, step_of};
+use crate::names::Sort;
+use crate::steps::{Want, is_open, step_of};
 use arrayvec::ArrayVec;
 use elem::{Ahead, next_lexeme};
 

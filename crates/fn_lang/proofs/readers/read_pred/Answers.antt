@@ -1,5 +1,5 @@
 use Rattle.fn_lang.proofs.ReadingLaws.{finds_value, finds_too_large, finds_none, finds_one, pred_finds}
-use Rattle.fn_lang.proofs.values.read_pred.Goals as goal
+use Rattle.fn_lang.proofs.readers.read_pred.Goals as goal
 
 pub returns-clause-found : goal.returns-clause-found
 returns-clause-found c = finds_value (pred_finds c.args.text.now) _ c.pred_of.ensures

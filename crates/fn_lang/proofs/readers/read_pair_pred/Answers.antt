@@ -1,5 +1,5 @@
 use Rattle.fn_lang.proofs.ReadingLaws.{finds_value, finds_too_large, finds_none, finds_one, pair_finds}
-use Rattle.fn_lang.proofs.values.read_pair_pred.Goals as goal
+use Rattle.fn_lang.proofs.readers.read_pair_pred.Goals as goal
 
 pub returns-clause-found : goal.returns-clause-found
 returns-clause-found c = finds_value (pair_finds c.args.text.now) _ c.pair_pred_of.ensures
