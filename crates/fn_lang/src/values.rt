@@ -101,7 +101,8 @@ impl Pred {
 
     /// Whether the predicate holds for an element.
     pub fn eval(&self, x: Elem) -> bool
-        ensures { (p : PredTree) → self.now ≡ pred_parts p → result ≡ pred_holds p x }
+        ensures value { (p : PredTree) → self.now ≡ pred_parts p → result ≡ pred_holds p x }
+        ensures tree { IsPred self.now }
     {
         let (truth, _) = holds(&self.flat.parts[..self.flat.len], x);
         truth
@@ -122,7 +123,8 @@ impl PairPred {
 
     /// Whether the predicate holds for a key and a value.
     pub fn eval(&self, k: Elem, v: Elem) -> bool
-        ensures { (p : PairTree) → self.now ≡ pair_parts p → result ≡ pair_holds p k v }
+        ensures value { (p : PairTree) → self.now ≡ pair_parts p → result ≡ pair_holds p k v }
+        ensures tree { IsPairPred self.now }
     {
         let (truth, _) = pair_holds(&self.flat.parts[..self.flat.len], k, v);
         truth
@@ -143,7 +145,8 @@ impl Func {
 
     /// The value of the function for an element.
     pub fn eval(&self, x: Elem) -> Elem
-        ensures { (f : FuncTree) → self.now ≡ func_parts f → result ≡ func_value f x }
+        ensures value { (f : FuncTree) → self.now ≡ func_parts f → result ≡ func_value f x }
+        ensures tree { IsFunc self.now }
     {
         let (value, _) = apply(&self.flat.parts[..self.flat.len], x);
         value
