@@ -26,6 +26,7 @@ with_comma a b = a ++ (tokens.Sign Comma ∷ b)
 abbrev pub IsAlone : List ℕ → List Token → Type 0
 IsAlone w ts = (ts ≡ tokens.Word w ∷ []) ⊎ (ts ≡ applied w [])
 
+-- the tokens spell a predicate that has no others in its brackets: x is a number or a word, t a word
 abbrev pub SpellsTest : List Token → Test → Type 0
 SpellsTest ts tests.Any = IsAlone (codes "any") ts
 SpellsTest ts tests.IsInt = IsAlone (codes "isInt") ts
@@ -36,6 +37,7 @@ SpellsTest ts (tests.Above x) = ts ≡ applied (codes "gt") (element_token x ∷
 SpellsTest ts (tests.Same x) = ts ≡ applied (codes "eq") (element_token x ∷ [])
 SpellsTest ts (tests.Starts t) = ts ≡ applied (codes "starts") (tokens.Word t ∷ [])
 
+-- the tokens spell a function that has no others in its brackets: n is a number
 abbrev pub SpellsMap : List Token → Map → Type 0
 SpellsMap ts (maps.Plus n) = ts ≡ applied (codes "plus") (tokens.Number n ∷ [])
 SpellsMap ts (maps.Times n) = ts ≡ applied (codes "times") (tokens.Number n ∷ [])
@@ -78,11 +80,14 @@ pub record HasTokens (text : List ℕ) (ts : List Token) : Type 0 where
   pub tokens : kinds_of lexemes ≡ ts
   pub unpadded : is_padded text ≡ false
 
+-- the text is the predicate
 abbrev pub IsPredText : List ℕ → PredTree → Type 0
 IsPredText text p = (ts : List Token) × HasTokens text ts × SpellsPred ts p
 
+-- the text is the predicate on pairs
 abbrev pub IsPairText : List ℕ → PairTree → Type 0
 IsPairText text p = (ts : List Token) × HasTokens text ts × SpellsPair ts p
 
+-- the text is the function
 abbrev pub IsFuncText : List ℕ → FuncTree → Type 0
 IsFuncText text f = (ts : List Token) × HasTokens text ts × SpellsFunc ts f

@@ -8,8 +8,8 @@ ghost use Rattle.fn_lang.specs.declared.names.Sort.TheVariants as sorts;
 ghost use Rattle.fn_lang.specs.Trees.{PredTree, PairTree, FuncTree, pred_parts, pair_parts, func_parts};
 
 use crate::faults::FnFault;
-use crate::reading::read_parts;
 use crate::names::Sort;
+use crate::reading::read_parts;
 use crate::values::{Func, PairPred, Pred};
 
 fn pred_of(text: &[u8]) -> Result<Pred, FnFault>
@@ -42,10 +42,10 @@ fn func_of(text: &[u8]) -> Result<Func, FnFault>
     }
 }
 
-/// The predicate that a text is, with any spaces between its tokens and none at its two ends.
+/// The predicate that a text is, with any spaces between its tokens and none at its two ends. It takes no memory.
 ///
-/// It is `NotGrammar` exactly where the text is not in the language, and `TooLarge` exactly where it is and has more
-/// than 64 parts.
+/// A name with nothing in its brackets may stand without them. The fault is `NotGrammar` exactly where the text is not
+/// in the language, and `TooLarge` exactly where it is and has more than 64 parts. No text has two readings.
 pub fn read_pred(text: &[u8]) -> Result<Pred, FnFault>
     requires { length text.now ≤ 1024 }
     ensures exact { result ≡ reading sorts.Pred text.now }
@@ -57,10 +57,10 @@ pub fn read_pred(text: &[u8]) -> Result<Pred, FnFault>
     pred_of(text)
 }
 
-/// The predicate on pairs that a text is, with any spaces between its tokens and none at its two ends.
+/// The predicate on pairs that a text is, with any spaces between its tokens and none at its two ends. It takes no memory.
 ///
-/// It is `NotGrammar` exactly where the text is not in the language, and `TooLarge` exactly where it is and has more
-/// than 64 parts.
+/// A name with nothing in its brackets may stand without them. The fault is `NotGrammar` exactly where the text is not
+/// in the language, and `TooLarge` exactly where it is and has more than 64 parts. No text has two readings.
 pub fn read_pair_pred(text: &[u8]) -> Result<PairPred, FnFault>
     requires { length text.now ≤ 1024 }
     ensures exact { result ≡ reading sorts.PairPred text.now }
@@ -72,10 +72,10 @@ pub fn read_pair_pred(text: &[u8]) -> Result<PairPred, FnFault>
     pair_pred_of(text)
 }
 
-/// The function that a text is, with any spaces between its tokens and none at its two ends.
+/// The function that a text is, with any spaces between its tokens and none at its two ends. It takes no memory.
 ///
-/// It is `NotGrammar` exactly where the text is not in the language, and `TooLarge` exactly where it is and has more
-/// than 64 parts.
+/// A name with nothing in its brackets may stand without them. The fault is `NotGrammar` exactly where the text is not
+/// in the language, and `TooLarge` exactly where it is and has more than 64 parts. No text has two readings.
 pub fn read_func(text: &[u8]) -> Result<Func, FnFault>
     requires { length text.now ≤ 1024 }
     ensures exact { result ≡ reading sorts.Func text.now }

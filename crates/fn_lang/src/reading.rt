@@ -9,8 +9,8 @@ ghost use Rattle.fn_lang.specs.declared.steps.Want.TheVariants.{Tree};
 ghost use Rattle.fn_lang.specs.declared.parts.Part.{Part as AnyPart};
 
 use crate::faults::FnFault;
-use crate::parts::Part;
 use crate::names::Sort;
+use crate::parts::Part;
 use crate::steps::{Want, is_open, step_of};
 use arrayvec::ArrayVec;
 use elem::{Ahead, next_lexeme};
