@@ -26,7 +26,7 @@ use Rattle.linked_base.proofs.LinkedMapSteps.{Linked}
 use Rattle.linked_base.proofs.HeldRows.{HoldsRows, node_held}
 
 module _ {V : Type 0} where
-  put_last : (new : Elem × V) (rows : List (Elem × V)) → put_before None new rows ≡ rows ++ new ∷ []
+  pub put_last : (new : Elem × V) (rows : List (Elem × V)) → put_before None new rows ≡ rows ++ new ∷ []
   put_last new [] = refl
   put_last new (r ∷ rows) = ap (λ l. r ∷ l) (put_last new rows)
 
