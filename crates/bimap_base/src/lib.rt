@@ -6,6 +6,8 @@ mod bi_fault;
 mod key_index;
 mod pair_rows;
 mod puts;
+#[cfg(test)]
+mod tests;
 
 pub use bi_fault::BiFault;
 pub use pair_rows::PairRows;

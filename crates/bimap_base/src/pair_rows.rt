@@ -159,8 +159,7 @@ impl PairRows {
     {
         steps.tick();
         let _len = self.rows.len();
-        let holder = key_of(&self.keys, &v);
-        if holder == Some(k) {
+        if key_of(&self.keys, &v) == Some(k) {
             return Ok(Some(v));
         }
         put_pair(&mut self.rows, &mut self.keys, &k, &v)
@@ -210,8 +209,7 @@ impl PairRows {
     {
         steps.tick();
         let _len = self.rows.len();
-        let holder = self.rows.probe(k);
-        if holder == Some(v) {
+        if self.rows.probe(k) == Some(v) {
             return Ok(Some(k));
         }
         flip_put_pair(&mut self.rows, &mut self.keys, &v, &k)
