@@ -1,7 +1,7 @@
 -- What each put makes of the pairs and of the index of keys by values.
 use Rattle.std.proofs.Common.{◌≡◌, ◌≢◌, Bool, true, false, cond, List, [], ◌∷◌, ◌++◌, Option, Some, None, refl, sym, ap, ◌∙◌, subst, append-nil, append_assoc}
 use Rattle.std.specs.Prelude.{IsSome}
-use Rattle.std.specs.Map.{lookup, remove_entry}
+use Rattle.std.specs.Map.{lookup}
 use Rattle.std.proofs.lemmas.Map.{NonePasses, none_passes_from_lookup, lookup-remove_entry}
 use Rattle.elem.specs.declared.elements.Elem.{Elem}
 use Rattle.elem.specs.Elements.{same}
@@ -9,7 +9,7 @@ use Rattle.elem.specs.ElementLaws.{same-Decides, same_equiv}
 use Rattle.elem.specs.Keyed.{value_at, IsPresent, without, with_value, HasDistinctKeys}
 use Rattle.elem.proofs.RowsLemmas.{remove_at}
 use Rattle.linked_base.specs.Moving.{put_before}
-use Rattle.linked_base.proofs.KeyedLemmas.{none_left, none_right, distinct_without}
+use Rattle.linked_base.proofs.KeyedLemmas.{none_right, distinct_without}
 use Rattle.linked_base.proofs.MovingLemmas.{put_last, put_at}
 use Rattle.bimap_base.specs.Pairs.{turned, freed, with_pair}
 use Rattle.bimap_base.specs.PairRows.{IsTurned, without_some, in_place_of}

@@ -7,7 +7,7 @@ use Rattle.elem.specs.Elements.{same}
 use Rattle.elem.specs.ElementLaws.{same-Decides, same_equiv}
 use Rattle.elem.specs.Keyed.{value_at, HasDistinctKeys}
 use Rattle.linked_base.proofs.KeyedLemmas.{lookup_with, distinct_without, distinct_with}
-use Rattle.bimap_base.specs.Pairs.{turned, key_of, freed, with_pair}
+use Rattle.bimap_base.specs.Pairs.{turned, freed, with_pair}
 use Rattle.bimap_base.specs.PairRows.{IsTurned, without_some, in_place_of}
 use Rattle.bimap_base.proofs.PairCuts.{Pair, turned-append, IsPairCut, cut_turned, value_cut, cut_value, cut_without, cut_row, cut_paired, cut_freed, freed_whole, with_pair_last}
 

@@ -34,26 +34,24 @@ fn bound<L: Ledger>(
         return Err(BiFault::NoMemory);
     };
     let first = m.first(&mut steps);
-    let after = key_after(&m, &first, &mut steps);
+    let after = key_after(&m, 3, &mut steps);
     Ok((refused, before, first, after))
 }
 
-/// The key after one, where there is one.
-fn key_after<L: Ledger>(m: &PairRows, k: &Option<Elem>, steps: &mut Steps<L>) -> Option<Elem> {
-    let key = (*k)?;
-    if m.by_key(key, steps).is_none() {
+/// The key after a number, where that is a key.
+fn key_after<L: Ledger>(m: &PairRows, number: i64, steps: &mut Steps<L>) -> Option<Elem> {
+    if m.by_key(Elem::Int(number), steps).is_none() {
         return None;
     }
-    m.after(key, steps)
+    m.after(Elem::Int(number), steps)
 }
 
-/// The key before one that is there.
-fn key_before<L: Ledger>(m: &PairRows, k: &Option<Elem>, steps: &mut Steps<L>) -> Option<Elem> {
-    let key = (*k)?;
-    if m.by_key(key, steps).is_none() {
+/// The key before a number, where that is a key.
+fn key_before<L: Ledger>(m: &PairRows, number: i64, steps: &mut Steps<L>) -> Option<Elem> {
+    if m.by_key(Elem::Int(number), steps).is_none() {
         return None;
     }
-    m.before(key, steps)
+    m.before(Elem::Int(number), steps)
 }
 
 /// The last key and the one before it after 20 went to 1 by force, and 30 to 4 from the side of the value.
@@ -72,7 +70,7 @@ fn forced<L: Ledger>(
     };
     m.flip_put(Elem::Int(30), Elem::Int(4), &mut steps)?;
     let last = m.last(&mut steps);
-    Ok((before, last, key_before(&m, &last, &mut steps)))
+    Ok((before, last, key_before(&m, 4, &mut steps)))
 }
 
 /// The value of 1, the key of 20 and the numbers of pairs as both go and all goes.

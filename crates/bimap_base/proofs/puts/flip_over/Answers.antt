@@ -2,7 +2,7 @@ use Rattle.std.proofs.Common.{sym, ap, ◌∙◌, cond, Some, subst, refl}
 use Rattle.std.specs.Prelude.{IsSome}
 use Rattle.std.specs.HashMap as hash
 use Rattle.elem.specs.Elements.{same}
-use Rattle.elem.specs.Keyed.{value_at, IsPresent, without, with_value}
+use Rattle.elem.specs.Keyed.{value_at, IsPresent, without}
 use Rattle.linked_base.specs.Moving.{put_before}
 use Rattle.bimap_base.specs.Pairs.{turned}
 use Rattle.bimap_base.specs.PairRows.{IsTurned, without_some}

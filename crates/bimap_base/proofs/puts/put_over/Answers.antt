@@ -1,4 +1,4 @@
-use Rattle.std.proofs.Common.{sym, ap, ◌∙◌, cond, None, Some, subst}
+use Rattle.std.proofs.Common.{sym, ap, ◌∙◌, cond, Some, subst}
 use Rattle.std.specs.Prelude.{IsSome}
 use Rattle.std.specs.HashMap as hash
 use Rattle.elem.specs.Elements.{same}

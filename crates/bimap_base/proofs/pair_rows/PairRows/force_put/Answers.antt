@@ -1,4 +1,4 @@
-use Rattle.std.proofs.Common.{ap, sym, ◌∙◌}
+use Rattle.std.proofs.Common.{sym, ◌∙◌}
 use Rattle.bimap_base.proofs.Holders.{not_own, other, stays_forced, there}
 use Rattle.bimap_base.proofs.pair_rows.PairRows.force_put.Goals as goal
 

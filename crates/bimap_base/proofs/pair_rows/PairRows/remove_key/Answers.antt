@@ -1,4 +1,4 @@
-use Rattle.std.proofs.Common.{sym, ap, ◌∙◌, subst}
+use Rattle.std.proofs.Common.{sym, ◌∙◌, subst}
 use Rattle.std.specs.HashMap as hash
 use Rattle.elem.specs.Elements.{same}
 use Rattle.bimap_base.specs.PairRows.{IsTurned}
