@@ -1,7 +1,7 @@
 -- A row moved before another, or last.
 use Rattle.std.proofs.Common.{◌≡◌, ℕ, ◌+◌, ◌-◌, Bool, true, false, cond, List, [], ◌∷◌, ◌++◌, length, Option, Some, None, refl, sym, ap, ◌∙◌, subst, arith, length-append, append-nil}
 use Rattle.std.specs.Prelude.{IsSome}
-use Rattle.std.specs.Option.{option_map, option_and_then}
+use Rattle.std.specs.Option.{option_and_then}
 use Rattle.std.specs.Map.{lookup, remove_entry}
 use Rattle.std.specs.HashMap.{HashMap, hash_map_len}
 use Rattle.std.specs.HashMap as hash
@@ -11,12 +11,11 @@ use Rattle.elem.specs.declared.elements.Elem.{Elem}
 use Rattle.elem.specs.Elements.{same}
 use Rattle.elem.specs.ElementLaws.{same-Decides, same_equiv}
 use Rattle.elem.proofs.RowsLemmas.{lookup_at, remove_at}
-use Rattle.linked_base.specs.declared.links.Links.{Links}
 use Rattle.linked_base.specs.declared.links.Ends.{Ends}
 use Rattle.linked_base.specs.declared.row_nodes.Node.{Node}
 use Rattle.linked_base.specs.Thread.{head_or, Avoids, IsThread, links_at, KeepsRest}
 use Rattle.linked_base.specs.Places.{rows_of, keyed, IsIndexed}
-use Rattle.linked_base.specs.LinkedMap.{links, row, row_at, IsRowsOf}
+use Rattle.linked_base.specs.LinkedMap.{links, row_at, IsRowsOf}
 use Rattle.linked_base.specs.Moving.{put_before}
 use Rattle.linked_base.proofs.ThreadLemmas.{apart_without}
 use Rattle.linked_base.proofs.PlacesLemmas.{some_of, There, there_both, rows-append, rows-cons, rows_at, rows_kept}
