@@ -3,3 +3,4 @@ pub mod Places
 pub mod Group
 pub mod LinkedMap
 pub mod LastRow
+pub mod Moving

@@ -1,10 +1,14 @@
 ghost use Rattle.std.specs.Prelude.{◌≡◌, ◌⊎◌, List, [], ◌∷◌, ◌++◌, length, Some, OnOk, OnErr, IfOk};
+ghost use Rattle.elem.specs.declared.elements.Elem.{Elem as Key};
 ghost use Rattle.elem.specs.Elements.{same};
 ghost use Rattle.elem.specs.Rows.{first_key, last_key, key_after, key_before, set_row};
 ghost use Rattle.elem.specs.Keyed.{value_at, IsPresent, IsAbsent, HasDistinctKeys, with_value, without};
+ghost use Rattle.linked_base.specs.Moving.{put_before};
 
 use crate::links::Ends;
-use crate::row_nodes::{AllRows, Node, key_at, new_node, take_place, write_place, write_row};
+use crate::row_nodes::{
+    AllRows, Node, key_at, new_node, place_of, take_place, write_place, write_row,
+};
 use crate::thread::{link_before, unlink};
 use elem::{Elem, NoMemory};
 use slab::Slab;
@@ -154,6 +158,18 @@ impl<V: Copy> FreeLinkedMap<V> {
         write_place(&mut self.index, &new, place);
         write_row(&mut self.nodes, place, &new, v);
         Ok(())
+    }
+
+    /// Moves the row of `k` before the row of `next`, or last where there is no `next`.
+    pub fn move_before(&mut self, k: Elem, next: Option<Elem>)
+        requires key { IsPresent self.old k }
+        requires next { (x : Key) → next ≡ Some x → IsPresent (without self.old k) x }
+        ensures { (v : V) → value_at self.old k ≡ Some v → self.new ≡ put_before next (k, v) (without self.old k) }
+    {
+        let next_place = place_of(&self.index, &next);
+        let place = self.index[&k];
+        unlink::<AllRows, Node<V>>(&mut self.nodes, &mut self.ends, place);
+        link_before::<AllRows, Node<V>>(&mut self.nodes, &mut self.ends, place, next_place);
     }
 
     /// Removes every row.

@@ -1,5 +1,6 @@
 //! The nodes of a linked map's rows, and the index from a key to the place of its node.
 ghost use Rattle.std.specs.Prelude.{◌≡◌, refl, ℕ, ◌+◌, ◌<◌, ◌≤◌, Some, None, cond, IsSome, OnSome, IfNone};
+ghost use Rattle.std.specs.Option.{option_and_then};
 ghost use Rattle.std.specs.HashMap.{hash_map_len, spare, IsUnchanged};
 ghost use Rattle.std.specs.HashMap as hash;
 ghost use Rattle.slab.specs.Slab.{ContainsKey};
@@ -97,4 +98,14 @@ pub fn take_place(index: &mut HashMap<Elem, usize>, k: &Elem) -> Option<usize>
     ensures spare { spare index.old ≤ spare index.new }
 {
     index.remove(k)
+}
+
+/// The place of a key, where there is a key.
+pub fn place_of(index: &HashMap<Elem, usize>, k: &Option<Elem>) -> Option<usize>
+    ensures { result ≡ option_and_then (hash.get same index.now) k.now }
+{
+    match k {
+        None => None,
+        Some(key) => index.get(key).copied(),
+    }
 }

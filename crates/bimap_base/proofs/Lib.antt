@@ -1,0 +1,4 @@
+pub mod PairCuts
+pub mod TurnedLemmas
+pub mod PutSteps
+pub mod Holders
