@@ -1,9 +1,12 @@
-ghost use Rattle.std.specs.Prelude.{◌≡◌, ◌+◌, ◌<◌, [], length, None, Some, nat_eq, IfOk, OnErr, MatchBool, IsTrue};
+ghost use Rattle.std.specs.Prelude.{◌≡◌, ◌+◌, ◌<◌, [], length, None, Some, nat_eq, IfOk, OnOk, OnErr, MatchBool, IsTrue};
 ghost use Rattle.elem.specs.Elements.{same};
 ghost use Rattle.elem.specs.Rows.{first_key, last_key, key_after, key_before};
 ghost use Rattle.mm_base.specs.PairRows.{HasDistinctIds, IsLive, pair_of, rows_beside, count_of, id_of, has_pair, IsPut, without_id, without_pair, without_key};
+ghost use Rattle.mm_base.specs.Exchanging.{each_once, IsExchanged};
+ghost use Rattle.mm_base.specs.Moving.{moved_last, key_last};
 ghost use Rattle.mm_base.specs.KeyedRows.{as_rows, AreKeysOf, HasDistinctPairs, with_key, keys_with_rows};
 
+use crate::distinct_values::distinct_values;
 use crate::linked_keys::{add_key, settle_key};
 use crate::pair_id::place_of;
 use crate::{FreeFlatPairs, PairId};
@@ -19,6 +22,7 @@ use std::sync::ledger::Ledger;
 pub struct LinkedPairs {
     pairs: FreeFlatPairs,
     keys: FreeLinkedMap<()>,
+    alloc: Global,
 }
 
 impl Model for LinkedPairs {
@@ -43,6 +47,7 @@ impl LinkedPairs {
         Ok(LinkedPairs {
             pairs: FreeFlatPairs::new(alloc),
             keys: FreeLinkedMap::new(alloc),
+            alloc,
         })
     }
 
@@ -226,6 +231,55 @@ impl LinkedPairs {
         let (key, _value) = self.pairs.pair_at(place);
         self.pairs.remove_at(place);
         settle_key(&self.pairs, &mut self.keys, &key);
+    }
+
+    /// Drops the pairs of a key, and puts a pair for each value, an equal one once, last. The key keeps its place among
+    /// the keys; a new one comes last, and one that gets no value goes.
+    pub fn replace_values<L: Ledger>(
+        &mut self,
+        k: Elem,
+        vs: &[Elem],
+        steps: &mut Steps<L>,
+    ) -> Result<(), NoMemory>
+        ensures rows { OnOk result (IsExchanged k (each_once vs.now) self.old.rows self.new.rows) }
+        ensures keys { OnOk result (self.new.keys ≡ keys_with_rows self.new.rows (with_key k self.old.keys)) }
+        ensures err { OnErr result (self.new ≡ self.old) }
+        ensures step { steps.new ≡ steps.old + 1 }
+    {
+        steps.tick();
+        let values = distinct_values(self.alloc, vs)?;
+        let added = add_key(&mut self.keys, &k)?;
+        if self.pairs.exchange(&k, &values).is_err() {
+            if added {
+                self.keys.remove(k);
+            }
+            return Err(NoMemory);
+        }
+        settle_key(&self.pairs, &mut self.keys, &k);
+        Ok(())
+    }
+
+    /// Puts a pair last. Its key keeps its place. It takes no memory.
+    pub fn to_end<L: Ledger>(&mut self, p: PairId, steps: &mut Steps<L>)
+        requires { IsLive self.old.rows p }
+        ensures rows { self.new.rows ≡ moved_last p self.old.rows }
+        ensures keys { self.new.keys ≡ self.old.keys }
+        ensures step { steps.new ≡ steps.old + 1 }
+    {
+        steps.tick();
+        self.pairs.to_end(place_of(p));
+    }
+
+    /// Puts a key last among the keys. The pairs keep their places. It takes no memory.
+    pub fn key_to_end<L: Ledger>(&mut self, k: Elem, steps: &mut Steps<L>)
+        requires { 0 < count_of k self.old.rows }
+        ensures rows { self.new.rows ≡ self.old.rows }
+        ensures keys { self.new.keys ≡ key_last k self.old.keys }
+        ensures step { steps.new ≡ steps.old + 1 }
+    {
+        steps.tick();
+        self.keys.to_end(k);
+        let _len = self.keys.len();
     }
 
     /// Removes every pair and every key.
