@@ -15,3 +15,4 @@ pub mod GroupedLemmas
 pub mod GroupedKeys
 pub mod HeldEnds
 pub mod GroupedSteps
+pub mod FoundPairs

@@ -6,3 +6,5 @@ pub mod LinkedPairs
 pub mod GroupedRows
 pub mod Exchanging
 pub mod Moving
+pub mod KeyValues
+pub mod PairPlaces

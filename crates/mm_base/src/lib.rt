@@ -7,10 +7,12 @@ mod flat_pairs;
 mod free_flat_pairs;
 mod grouped_lists;
 mod heads;
+mod key_values;
 mod linked_keys;
 mod linked_pairs;
 mod pair_id;
 mod pair_nodes;
+mod pair_places;
 #[cfg(test)]
 mod tests;
 
