@@ -6,10 +6,10 @@ ghost use Rattle.elem.specs.Rows.{first_key, last_key, key_after, key_before};
 ghost use Rattle.std.specs.Prelude.{nat_eq};
 ghost use Rattle.mm_base.specs.PairRows.{HasDistinctIds, IsLive, pair_of, pairs_of_key, rows_beside, first_pairs, count_of, id_of, has_pair, rows_of_pair, pair_at, with_pair, put_before, rows_from, IsPut, without_id, without_pair, without_key};
 
-mod exchanging;
 mod moving;
 mod neighbours;
 mod places;
+mod placing;
 mod reading;
 mod replacing;
 

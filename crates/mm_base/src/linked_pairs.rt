@@ -7,12 +7,15 @@ ghost use Rattle.mm_base.specs.Moving.{moved_last, key_last};
 ghost use Rattle.mm_base.specs.KeyedRows.{as_rows, AreKeysOf, HasDistinctPairs, with_key, keys_with_rows};
 
 use crate::distinct_values::distinct_values;
+use crate::key_values::{KeyValue, pair_place};
 use crate::linked_keys::{add_key, settle_key};
 use crate::pair_id::place_of;
+use crate::pair_places::{exchange_pairs, put_pair, remove_found, remove_key_pairs, remove_place};
 use crate::{FreeFlatPairs, PairId};
 use elem::{Elem, NoMemory, Steps};
 use linked_base::FreeLinkedMap;
 use std::alloc::Global;
+use std::collections::HashMap;
 use std::marker::Model;
 use std::sync::ledger::Ledger;
 
@@ -23,21 +26,24 @@ mod reading;
 #[derive(Drop)]
 pub struct LinkedPairs {
     pairs: FreeFlatPairs,
+    places: HashMap<KeyValue, usize>,
     keys: FreeLinkedMap<()>,
     alloc: Global,
 }
 
 impl Model for LinkedPairs {
     ghost use Rattle.std.specs.Map.{keys_of};
+    ghost use Rattle.std.specs.HashMap as hash;
+    ghost use Rattle.mm_base.specs.KeyValues.{same_pair};
     ghost use Rattle.mm_base.specs.KeyedRows.{KeyedRows};
 
     ghost Value = { KeyedRows };
 
-    ghost use Rattle.mm_base.specs.LinkedPairs.{keyed_rows, AreLinked};
+    ghost use Rattle.mm_base.specs.LinkedPairs.{keyed_rows, AreLinkedPairs};
 
     ghost view = { λ m. keyed_rows m.pairs m.keys };
 
-    ghost invariant = { λ m. AreLinked m.pairs m.keys };
+    ghost invariant = { λ m. AreLinkedPairs m.pairs m.keys (hash.get same_pair m.places) };
 }
 
 impl LinkedPairs {
@@ -48,6 +54,7 @@ impl LinkedPairs {
     {
         Ok(LinkedPairs {
             pairs: FreeFlatPairs::new(alloc),
+            places: HashMap::new(alloc),
             keys: FreeLinkedMap::new(alloc),
             alloc,
         })
@@ -66,11 +73,11 @@ impl LinkedPairs {
         ensures step { steps.new ≡ steps.old + 1 }
     {
         steps.tick();
-        if self.pairs.find(&k, &v).is_some() {
+        if pair_place(&self.places, &k, &v).is_some() {
             return Ok(false);
         }
         let added = add_key(&mut self.keys, &k)?;
-        if self.pairs.link(&k, &v, None, None).is_err() {
+        if put_pair(&mut self.pairs, &mut self.places, &k, &v).is_err() {
             if added {
                 self.keys.remove(k);
             }
@@ -88,7 +95,7 @@ impl LinkedPairs {
     {
         steps.tick();
         let _len = self.pairs.len();
-        let removed = self.pairs.remove_pair(k, v);
+        let removed = remove_found(&mut self.pairs, &mut self.places, &k, &v);
         settle_key(&self.pairs, &mut self.keys, &k);
         removed
     }
@@ -101,7 +108,7 @@ impl LinkedPairs {
         ensures step { steps.new ≡ steps.old + 1 }
     {
         steps.tick();
-        let count = self.pairs.remove_key(k);
+        let count = remove_key_pairs(&mut self.pairs, &mut self.places, &k);
         settle_key(&self.pairs, &mut self.keys, &k);
         count
     }
@@ -116,7 +123,7 @@ impl LinkedPairs {
         steps.tick();
         let place = place_of(p);
         let (key, _value) = self.pairs.pair_at(place);
-        self.pairs.remove_at(place);
+        remove_place(&mut self.pairs, &mut self.places, place);
         settle_key(&self.pairs, &mut self.keys, &key);
     }
 
@@ -136,7 +143,7 @@ impl LinkedPairs {
         steps.tick();
         let values = distinct_values(self.alloc, vs)?;
         let added = add_key(&mut self.keys, &k)?;
-        if self.pairs.exchange(&k, &values).is_err() {
+        if exchange_pairs(&mut self.pairs, &mut self.places, &k, &values).is_err() {
             if added {
                 self.keys.remove(k);
             }
@@ -175,6 +182,7 @@ impl LinkedPairs {
         ensures keys { self.new.keys ≡ [] }
     {
         self.pairs.clear();
+        self.places.clear();
         self.keys.clear();
     }
 }

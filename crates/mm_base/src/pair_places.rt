@@ -4,14 +4,14 @@ ghost use Rattle.std.specs.HashMap as hash;
 ghost use Rattle.std.specs.HashMap.{spare};
 ghost use Rattle.elem.specs.declared.elements.Elem.{Elem as Key};
 ghost use Rattle.elem.specs.Rows.{first_key};
-ghost use Rattle.mm_base.specs.PairRows.{Row, IsLive, IsPut, count_of, pair_of, pairs_of_key, rows_of_pair, without_id, without_key};
+ghost use Rattle.mm_base.specs.PairRows.{Row, IsLive, IsPut, count_of, has_pair, pairs_of_key, rows_of_pair, without_id, without_pair, without_key};
 ghost use Rattle.mm_base.specs.KeyedRows.{HasDistinctPairs};
 ghost use Rattle.mm_base.specs.KeyValues.{same_pair};
 ghost use Rattle.mm_base.specs.PairPlaces.{FindsPairs};
 ghost use Rattle.mm_base.specs.Exchanging.{each_once, IsExchanged};
 
 use crate::FreeFlatPairs;
-use crate::key_values::{KeyValue, forget_pair_place, write_pair_place};
+use crate::key_values::{KeyValue, forget_pair_place, pair_place, write_pair_place};
 use elem::{Elem, NoMemory};
 use std::collections::HashMap;
 
@@ -39,23 +39,43 @@ pub fn put_pair(
     Ok(())
 }
 
-/// Removes the pair at a place, and tells its key.
+/// Removes the pair at a place.
 pub fn remove_place(
     pairs: &mut FreeFlatPairs,
     places: &mut HashMap<KeyValue, usize>,
     place: usize,
-) -> Elem
+)
     requires place { IsLive pairs.old place }
     requires distinct { HasDistinctPairs pairs.old }
     requires found { FindsPairs pairs.old (hash.get same_pair places.old) }
-    ensures key { (k v : Key) → pair_of pairs.old place ≡ Some (k, v) → result ≡ k }
     ensures rows { pairs.new ≡ without_id (Some place) pairs.old }
     ensures found { FindsPairs pairs.new (hash.get same_pair places.new) }
 {
     let (key, value) = pairs.pair_at(place);
     pairs.remove_at(place);
     forget_pair_place(places, &key, &value);
-    key
+}
+
+/// Removes the pair of a key and a value, and tells whether there was one.
+pub fn remove_found(
+    pairs: &mut FreeFlatPairs,
+    places: &mut HashMap<KeyValue, usize>,
+    k: &Elem,
+    v: &Elem,
+) -> bool
+    requires distinct { HasDistinctPairs pairs.old }
+    requires found { FindsPairs pairs.old (hash.get same_pair places.old) }
+    ensures answer { result ≡ has_pair k.now v.now pairs.old }
+    ensures rows { pairs.new ≡ without_pair k.now v.now pairs.old }
+    ensures found { FindsPairs pairs.new (hash.get same_pair places.new) }
+{
+    match pair_place(places, k, v) {
+        None => false,
+        Some(place) => {
+            remove_place(pairs, places, place);
+            true
+        }
+    }
 }
 
 /// Removes the first pairs of a key. The map may lack the pairs behind them.

@@ -7,6 +7,7 @@ ghost use Rattle.mm_base.specs.KeyedRows.{as_rows, AreKeysOf, HasDistinctPairs};
 
 use super::LinkedPairs;
 use crate::PairId;
+use crate::key_values::pair_place;
 use elem::{Elem, Steps};
 use std::sync::ledger::Ledger;
 
@@ -36,7 +37,7 @@ impl LinkedPairs {
         ensures step { steps.new ≡ steps.old + 1 }
     {
         steps.tick();
-        self.pairs.has(k, v)
+        pair_place(&self.places, &k, &v).is_some()
     }
 
     /// A key's pair number `i`.

@@ -1,23 +1,12 @@
-//! The pairs of a key exchanged for new ones. These come first, so that nothing is lost where memory is refused.
+//! New pairs of a key where its pairs begin, and its first pairs removed.
 ghost use Rattle.std.specs.Prelude.{◌≡◌, List, ◌++◌, OnOk, OnErr};
 ghost use Rattle.mm_base.specs.PairRows.{Row, count_of, without_key};
-ghost use Rattle.mm_base.specs.Exchanging.{IsExchanged, IsEdge, IsPlaced};
+ghost use Rattle.mm_base.specs.Exchanging.{IsEdge, IsPlaced};
 
 use super::FreeFlatPairs;
 use elem::{Elem, NoMemory};
 
 impl FreeFlatPairs {
-    /// Removes the pairs of a key, and puts a pair for each value, last.
-    pub(crate) fn exchange(&mut self, k: &Elem, vs: &[Elem]) -> Result<(), NoMemory>
-        ensures ok { OnOk result (IsExchanged k.now vs.now self.old self.new) }
-        ensures err { OnErr result (self.new ≡ self.old) }
-    {
-        let count = self.count_of(*k);
-        self.append(k, vs)?;
-        self.remove_first(k, count);
-        Ok(())
-    }
-
     /// Puts a pair for each value before the place `next`, where the pairs of the key begin, or last.
     pub(crate) fn place_all(
         &mut self,
