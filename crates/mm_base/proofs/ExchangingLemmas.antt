@@ -1,22 +1,21 @@
 -- New rows of a key, placed where its rows begin, and values each once.
-use Rattle.std.proofs.Common.{◌≡◌, ℕ, zero, suc, ◌+◌, ◌<◌, ◌≤◌, Bool, true, false, cond, not, ◌&&◌, ◌||◌, List, [], ◌∷◌, ◌++◌, length, map, Option, Some, None, refl, sym, ap, ◌∙◌, subst, arith, length-append, append-nil, append_assoc}
+use Rattle.std.proofs.Common.{◌≡◌, ℕ, suc, ◌≤◌, Bool, true, false, cond, not, ◌||◌, List, [], ◌∷◌, ◌++◌, length, map, Option, Some, refl, sym, ap, ◌∙◌, subst, arith, append-nil, append_assoc}
 use Rattle.std.specs.Prelude.{IsSome, is_some, nat_eq}
-use Rattle.std.specs.List.{filter, IsDistinct}
+use Rattle.std.specs.List.{filter}
 use Rattle.std.specs.Map.{lookup, keys_of}
-use Rattle.std.proofs.lemmas.Map.{NonePasses}
 use Rattle.std.proofs.lemmas.Bool.Decides.{Decides-eqb}
 use Rattle.std.proofs.lemmas.List.Elements.{filter-append}
 use Rattle.elem.specs.declared.elements.Elem.{Elem}
 use Rattle.elem.specs.Elements.{same}
 use Rattle.elem.specs.ElementLaws.{same-Decides, same_equiv}
 use Rattle.elem.specs.Rows.{first_key}
-use Rattle.mm_base.specs.PairRows.{Row, IsPut, IsNew, HasDistinctIds, pair_of, pairs_of_key, without_key, count_of, rows_from, put_before, rows_of_pair}
+use Rattle.mm_base.specs.PairRows.{Row, IsPut, HasDistinctIds, pairs_of_key, without_key, count_of, rows_from, put_before, rows_of_pair}
 use Rattle.elem.specs.Keyed.{without, HasDistinctKeys}
 use Rattle.mm_base.specs.KeyedRows.{contains, has_key, with_key, keys_with_rows, AreKeysOf, HasDistinctPairs}
 use Rattle.mm_base.specs.LinkedPairs.{AreLinked}
 use Rattle.mm_base.specs.GroupedRows.{begins_with}
 use Rattle.mm_base.specs.Exchanging.{each_once, IsEdge, IsPlaced}
-use Rattle.mm_base.proofs.PairRowsLemmas.{none_before, later, none_left}
+use Rattle.mm_base.proofs.PairRowsLemmas.{none_before, later}
 use Rattle.mm_base.proofs.PairsReads.{put_before_at, rows_from_at}
 use Rattle.mm_base.proofs.ReplacingLemmas.{map_append, none_without}
 use Rattle.mm_base.proofs.KeyedRowsLemmas.{has_last, keyed_with, keys_settled, keyed_settled, pairs_filtered, others_without}

@@ -1,14 +1,14 @@
 -- Rows that are grouped by key: fewer of them, and others in the place of a key's.
-use Rattle.std.proofs.Common.{◌≡◌, ◌⊎◌, inl, inr, ℕ, zero, suc, ◌+◌, ◌<◌, ◌≤◌, Bool, true, false, cond, not, ◌&&◌, ◌||◌, List, [], ◌∷◌, ◌++◌, length, map, insert, Option, Some, None, refl, sym, ap, ◌∙◌, subst, arith, slice_get, length-append, append-nil, append_assoc}
-use Rattle.std.specs.Prelude.{IsSome, is_some, nat_eq}
+use Rattle.std.proofs.Common.{◌≡◌, ◌⊎◌, inl, inr, ℕ, zero, suc, ◌≤◌, Bool, true, false, cond, not, List, [], ◌∷◌, ◌++◌, length, insert, Option, Some, None, refl, sym, ap, ◌∙◌, subst, arith, slice_get, append-nil, append_assoc}
+use Rattle.std.specs.Prelude.{is_some, nat_eq}
 use Rattle.std.specs.List.{filter}
-use Rattle.std.specs.Map.{lookup, remove_entry}
+use Rattle.std.specs.Map.{remove_entry}
 use Rattle.std.proofs.lemmas.List.Elements.{filter-append}
 use Rattle.elem.specs.declared.elements.Elem.{Elem}
 use Rattle.elem.specs.Elements.{same}
 use Rattle.elem.specs.ElementLaws.{same-Decides, same_equiv}
-use Rattle.elem.specs.Rows.{first_key, last_key, last_key_or, key_after, key_before}
-use Rattle.mm_base.specs.PairRows.{Row, HasDistinctIds, pairs_of_key, without_key, without_id, count_of, put_before}
+use Rattle.elem.specs.Rows.{first_key}
+use Rattle.mm_base.specs.PairRows.{Row, HasDistinctIds, pairs_of_key, without_key, without_id, put_before}
 use Rattle.mm_base.specs.KeyedRows.{has_key}
 use Rattle.mm_base.specs.GroupedRows.{begins_with, IsGrouped, in_place_of, IsSplit}
 use Rattle.mm_base.proofs.KeyedRowsLemmas.{others_without}

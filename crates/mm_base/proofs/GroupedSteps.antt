@@ -1,5 +1,5 @@
 -- What each call makes of grouped rows.
-use Rattle.std.proofs.Common.{◌≡◌, ℕ, zero, suc, ◌<◌, ◌≤◌, Bool, true, false, cond, not, List, [], ◌∷◌, ◌++◌, length, map, insert, Option, Some, None, refl, sym, ap, ◌∙◌, subst, arith, slice_get, append-nil, append_assoc}
+use Rattle.std.proofs.Common.{◌≡◌, ℕ, zero, suc, ◌<◌, ◌≤◌, Bool, true, false, cond, not, List, [], ◌∷◌, ◌++◌, length, insert, Option, Some, None, refl, sym, ap, ◌∙◌, subst, arith, slice_get, append-nil, append_assoc}
 use Rattle.std.specs.Prelude.{IsSome, is_some, nat_eq}
 use Rattle.std.specs.Option.{option_map}
 use Rattle.std.specs.Map.{lookup, set_value}
@@ -129,7 +129,7 @@ pub replaced_in_group : (k : Elem) (vs : List Elem) (next : Option ℕ) (rows mi
 replaced_in_group k vs next rows mid new h e = (
   h.added,
   e ∙ append_assoc h.front h.added (without_key k h.back)
-  ∙ sym (ap (in_place_of k h.added) h.edge.cut ∙ past k h.added h.front h.back h.edge.none ∙ ap (λ l. h.front ++ l) (at_edge k h.added next h.back h.edge.start h.edge.begins)),
+      ∙ sym (ap (in_place_of k h.added) h.edge.cut ∙ past k h.added h.front h.back h.edge.none ∙ ap (λ l. h.front ++ l) (at_edge k h.added next h.back h.edge.start h.edge.begins)),
   h.values,
 )
 

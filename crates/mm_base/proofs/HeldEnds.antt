@@ -1,25 +1,23 @@
 -- The last pair of a key, and the pair before another, in the fields of linked pairs.
-use Rattle.std.proofs.Common.{◌≡◌, ℕ, List, [], ◌∷◌, ◌++◌, Option, Some, None, refl, sym, ap, ◌∙◌, subst}
+use Rattle.std.proofs.Common.{◌≡◌, ℕ, List, [], ◌∷◌, Option, Some, None, refl, sym, ap, ◌∙◌, subst}
 use Rattle.std.specs.Prelude.{IsSome, nat_eq}
 use Rattle.std.specs.Map.{lookup}
-use Rattle.std.specs.List.{filter}
 use Rattle.slab.specs.Slab.{Slab, get}
 use Rattle.std.proofs.lemmas.Bool.Decides.{Decides-eqb}
 use Rattle.elem.specs.declared.elements.Elem.{Elem}
-use Rattle.elem.specs.Elements.{same}
 use Rattle.elem.specs.Rows.{last_key, last_key_or, key_before}
 use Rattle.elem.proofs.RowsLemmas.{key_before_at}
 use Rattle.linked_base.specs.declared.links.Links.{Links}
 use Rattle.linked_base.specs.declared.links.Ends.{Ends}
 use Rattle.linked_base.specs.declared.group.Group.{Group}
 use Rattle.linked_base.specs.Thread.{last_or, links_at}
-use Rattle.linked_base.specs.Group.{group_or_none, has, of_key}
+use Rattle.linked_base.specs.Group.{group_or_none, of_key}
 use Rattle.linked_base.specs.Places.{id_rows}
 use Rattle.linked_base.proofs.ThreadLemmas.{thread_cut_at, links_read}
 use Rattle.linked_base.proofs.PlacesLemmas.{There, some_of, there_left}
 use Rattle.linked_base.proofs.IdLemmas.{ids-cons, rows_cut}
 use Rattle.mm_base.specs.declared.pair_nodes.PairNode.{PairNode}
-use Rattle.mm_base.specs.PairNodes.{all_links, key_at, core_at, ArePairs}
+use Rattle.mm_base.specs.PairNodes.{all_links, key_at, core_at}
 use Rattle.mm_base.specs.PairRows.{Row, pairs_of_key}
 use Rattle.mm_base.proofs.PairsReads.{there, key_rows, key_there, id_cut, cut_pairs}
 use Rattle.mm_base.proofs.HeldPairs.{HoldsPairs}

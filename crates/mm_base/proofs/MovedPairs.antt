@@ -1,5 +1,5 @@
 -- A pair taken out of its threads and put in again, last.
-use Rattle.std.proofs.Common.{◌≡◌, ◌≢◌, ℕ, ◌+◌, Bool, true, false, cond, List, [], ◌∷◌, ◌++◌, length, Option, Some, None, refl, sym, ap, ◌∙◌, subst, arith, length-append, append-nil}
+use Rattle.std.proofs.Common.{◌≡◌, ℕ, Bool, true, false, cond, List, [], ◌∷◌, ◌++◌, Option, Some, refl, sym, ap, ◌∙◌, subst, arith, length-append, append-nil}
 use Rattle.std.specs.Prelude.{IsSome, nat_eq}
 use Rattle.std.specs.Option.{option_map}
 use Rattle.std.specs.Map.{lookup, remove_entry}
@@ -20,7 +20,7 @@ use Rattle.mm_base.specs.declared.pair_nodes.PairNode.{PairNode}
 use Rattle.mm_base.specs.PairNodes.{all_links, key_links, key, core, key_at, core_at, with_group, ArePairs}
 use Rattle.mm_base.specs.PairRows.{Row}
 use Rattle.mm_base.proofs.PairsSteps.{with_all, with_key, group₁}
-use Rattle.mm_base.proofs.PairsReads.{id_cut, cut_pairs, core_read}
+use Rattle.mm_base.proofs.PairsReads.{id_cut, cut_pairs}
 use Rattle.mm_base.proofs.HeldPairs.{HoldsPairs}
 
 -- n₀ before, n₁ out of the thread of all, n₂ out of its key's thread, n₃ last of all, n₄ last of its key

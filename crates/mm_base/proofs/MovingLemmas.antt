@@ -1,5 +1,5 @@
 -- Rows that go last, and rows of a key that go in turn.
-use Rattle.std.proofs.Common.{◌≡◌, ℕ, zero, suc, ◌+◌, ◌<◌, ◌≤◌, Bool, true, false, cond, not, ◌&&◌, ◌||◌, List, [], ◌∷◌, ◌++◌, length, Option, Some, None, refl, sym, ap, ◌∙◌, subst, arith, length-append, append-nil, append_assoc}
+use Rattle.std.proofs.Common.{◌≡◌, ℕ, ◌+◌, ◌<◌, ◌≤◌, Bool, true, false, cond, not, ◌&&◌, ◌||◌, List, [], ◌∷◌, ◌++◌, length, Some, None, refl, sym, ap, ◌∙◌, subst, arith, length-append, append-nil, append_assoc}
 use Rattle.std.specs.Prelude.{IsSome, is_some, nat_eq}
 use Rattle.std.specs.List.{filter, IsDistinct, AllByRecursion}
 use Rattle.std.specs.Map.{lookup, remove_entry, keys_of}
@@ -13,8 +13,8 @@ use Rattle.elem.specs.Rows.{first_key}
 use Rattle.elem.specs.Keyed.{without, HasDistinctKeys}
 use Rattle.elem.proofs.RowsLemmas.{remove_at}
 use Rattle.linked_base.proofs.PlacesLemmas.{some_of}
-use Rattle.mm_base.specs.PairRows.{Row, HasDistinctIds, pair_of, pairs_of_key, without_key, count_of, id_of, rows_of_pair}
-use Rattle.mm_base.specs.KeyedRows.{contains, has_key, AreKeysOf, HasDistinctPairs}
+use Rattle.mm_base.specs.PairRows.{Row, HasDistinctIds, pair_of, pairs_of_key, without_key, count_of, id_of}
+use Rattle.mm_base.specs.KeyedRows.{contains}
 use Rattle.mm_base.specs.LinkedPairs.{AreLinked}
 use Rattle.mm_base.specs.Moving.{as_row, moved_last, key_moved_last, key_last}
 use Rattle.mm_base.proofs.PairRowsLemmas.{first_id_of, no_id, none_left}

@@ -53,28 +53,17 @@ impl Hash for KeyValue {
 pub fn pair_place(places: &HashMap<KeyValue, usize>, k: &Elem, v: &Elem) -> Option<usize>
     ensures { result ≡ hash.get same_pair places.now (key_value k.now v.now) }
 {
-    let pair = KeyValue {
-        key: *k,
-        value: *v,
-    };
+    let pair = KeyValue { key: *k, value: *v };
     places.get(&pair).copied()
 }
 
 /// Gives a key and a value a place, for which there is room.
-pub fn write_pair_place(
-    places: &mut HashMap<KeyValue, usize>,
-    k: &Elem,
-    v: &Elem,
-    place: usize,
-)
+pub fn write_pair_place(places: &mut HashMap<KeyValue, usize>, k: &Elem, v: &Elem, place: usize)
     requires { 0 < spare places.old }
     ensures updates { (q : Pair) → hash.get same_pair places.new q ≡ cond (same_pair (key_value k.now v.now) q) (Some place) (hash.get same_pair places.old q) }
     ensures spare { spare places.old ≤ spare places.new + 1 }
 {
-    let pair = KeyValue {
-        key: *k,
-        value: *v,
-    };
+    let pair = KeyValue { key: *k, value: *v };
     let _before = places.insert(pair, place);
 }
 
@@ -83,9 +72,6 @@ pub fn forget_pair_place(places: &mut HashMap<KeyValue, usize>, k: &Elem, v: &El
     ensures updates { (q : Pair) → hash.get same_pair places.new q ≡ cond (same_pair (key_value k.now v.now) q) None (hash.get same_pair places.old q) }
     ensures spare { spare places.old ≤ spare places.new }
 {
-    let pair = KeyValue {
-        key: *k,
-        value: *v,
-    };
+    let pair = KeyValue { key: *k, value: *v };
     let _place = places.remove(&pair);
 }

@@ -40,11 +40,7 @@ pub fn put_pair(
 }
 
 /// Removes the pair at a place.
-pub fn remove_place(
-    pairs: &mut FreeFlatPairs,
-    places: &mut HashMap<KeyValue, usize>,
-    place: usize,
-)
+pub fn remove_place(pairs: &mut FreeFlatPairs, places: &mut HashMap<KeyValue, usize>, place: usize)
     requires place { IsLive pairs.old place }
     requires distinct { HasDistinctPairs pairs.old }
     requires found { FindsPairs pairs.old (hash.get same_pair places.old) }

@@ -1,5 +1,4 @@
-use Rattle.std.proofs.Common.{◌≡◌, ◌+◌, Vec, Global, cond, not, ◌∷◌, [], ◌++◌, take, sym, ap, ◌∙◌}
-use Rattle.std.specs.Map.{keys_of}
+use Rattle.std.proofs.Common.{Vec, Global, cond, not, ◌∷◌, [], ◌++◌, take, sym, ap, ◌∙◌}
 use Rattle.elem.specs.declared.elements.Elem.{Elem}
 use Rattle.mm_base.specs.KeyedRows.{contains, with_key}
 use Rattle.mm_base.specs.Exchanging.{each_once}

@@ -1,4 +1,4 @@
-use Rattle.std.proofs.Common.{◌≡◌, ◌≤◌, length, map, sym, ap, ◌∙◌, subst, arith}
+use Rattle.std.proofs.Common.{map, sym, ap, ◌∙◌, subst, arith}
 use Rattle.mm_base.specs.PairRows.{count_of, without_key}
 use Rattle.mm_base.specs.KeyedRows.{HasDistinctPairs}
 use Rattle.mm_base.specs.KeyValues.{key_value}

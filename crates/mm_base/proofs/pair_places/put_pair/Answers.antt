@@ -1,4 +1,4 @@
-use Rattle.std.proofs.Common.{Some, cond, refl, sym, ◌∙◌, subst}
+use Rattle.std.proofs.Common.{cond, refl, sym, ◌∙◌, subst}
 use Rattle.std.specs.Prelude.{IsSome}
 use Rattle.std.specs.HashMap as hash
 use Rattle.mm_base.specs.KeyValues.{key_value, same_pair}

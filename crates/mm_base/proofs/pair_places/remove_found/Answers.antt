@@ -1,9 +1,6 @@
-use Rattle.std.proofs.Common.{sym, ap, ◌∙◌, subst}
+use Rattle.std.proofs.Common.{sym, ap, ◌∙◌}
 use Rattle.std.specs.Prelude.{is_some}
-use Rattle.std.specs.HashMap as hash
 use Rattle.mm_base.specs.PairRows.{without_id}
-use Rattle.mm_base.specs.KeyValues.{same_pair}
-use Rattle.mm_base.specs.PairPlaces.{FindsPairs}
 use Rattle.mm_base.proofs.PairRowsLemmas.{pair_is_live}
 use Rattle.mm_base.proofs.pair_places.remove_found.Goals as goal
 

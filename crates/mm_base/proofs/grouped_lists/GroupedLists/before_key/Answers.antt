@@ -1,5 +1,5 @@
 use Rattle.std.proofs.Common.{◌<◌, sym, ap, ◌∙◌, subst}
-use Rattle.std.specs.Prelude.{IsSome, nat_eq}
+use Rattle.std.specs.Prelude.{IsSome}
 use Rattle.elem.specs.Elements.{same}
 use Rattle.elem.specs.Rows.{key_before}
 use Rattle.mm_base.specs.PairRows.{first_pairs, count_of}

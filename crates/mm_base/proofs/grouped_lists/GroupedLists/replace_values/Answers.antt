@@ -1,4 +1,4 @@
-use Rattle.std.proofs.Common.{◌++◌, sym, ◌∙◌, subst}
+use Rattle.std.proofs.Common.{◌++◌, sym, subst}
 use Rattle.mm_base.specs.GroupedRows.{IsGrouped, IsReplacedInGroup}
 use Rattle.mm_base.proofs.ExchangingLemmas.{edge_key, placed_whole}
 use Rattle.mm_base.proofs.GroupedSteps.{its_edge, replaced_in_group, replaced_grouped}

@@ -1,7 +1,7 @@
-use Rattle.std.proofs.Common.{sym, ap, ◌∙◌, subst}
+use Rattle.std.proofs.Common.{sym, ◌∙◌, subst}
 use Rattle.std.specs.Map.{keys_of}
 use Rattle.mm_base.specs.LinkedPairs.{AreLinked}
-use Rattle.mm_base.proofs.Results.{on_ok_of, on_err_of}
+use Rattle.mm_base.proofs.Results.{on_ok_of}
 use Rattle.mm_base.proofs.KeyedRowsLemmas.{keyed_with, pairs_with, none_of}
 use Rattle.mm_base.proofs.linked_pairs.LinkedPairs.put.Goals as goal
 
