@@ -8,3 +8,4 @@ pub mod LinkedMapLemmas
 pub mod LinkedMapSteps
 pub mod HeldRows
 pub mod MovingLemmas
+pub mod MovedRows

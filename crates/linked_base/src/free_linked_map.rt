@@ -172,6 +172,20 @@ impl<V: Copy> FreeLinkedMap<V> {
         link_before::<AllRows, Node<V>>(&mut self.nodes, &mut self.ends, place, next_place);
     }
 
+    /// Puts the row of a key last, and tells its value. It takes no memory.
+    pub fn to_end(&mut self, k: Elem) -> V
+        requires { IsPresent self.old k }
+        ensures value { value_at self.old k ≡ Some result }
+        ensures rows { self.new ≡ without self.old k ++ (k, result) ∷ [] }
+    {
+        let place = self.index[&k];
+        let value = self.nodes[place].value;
+        unlink::<AllRows, Node<V>>(&mut self.nodes, &mut self.ends, place);
+        let next = None;
+        link_before::<AllRows, Node<V>>(&mut self.nodes, &mut self.ends, place, next);
+        value
+    }
+
     /// Removes every row.
     pub fn clear(&mut self)
         ensures { self.new ≡ [] }

@@ -31,7 +31,7 @@ keys_last (e ∷ es) k v = ap (λ l. e.0 ∷ l) (keys_last es k v)
 pub taken_back : {V : Type 0} (es : List (Elem × V)) (k : Elem) (v : V) → lookup (same k) es ≡ None → without (es ++ (k, v) ∷ []) k ≡ es
 taken_back es k v e = remove_at (same k) es (k, v) [] (none_passes_from_lookup (same k) es e) (same_equiv.refl k) ∙ append-nil es
 
-contains_last : (x k : Elem) (keys : List Elem) → contains x (keys ++ k ∷ []) ≡ (contains x keys || same x k)
+pub contains_last : (x k : Elem) (keys : List Elem) → contains x (keys ++ k ∷ []) ≡ (contains x keys || same x k)
 contains_last x k [] = elim (same x k) as (λ b. cond b true false ≡ b) [ true ↦ refl | false ↦ refl ]
 contains_last x k (y ∷ keys) = elim (same x y) as (λ b. cond b true (contains x (keys ++ k ∷ [])) ≡ (cond b true (contains x keys) || same x k)) [ true ↦ refl | false ↦ contains_last x k keys ]
 
@@ -47,7 +47,7 @@ contains_with x k keys = by_case (contains k keys) refl
     by_case false c = contains_last x k keys
 
 -- a pair put last
-has_last : (x : Elem) (rows : List Row) (r : Row) → has_key (rows ++ r ∷ []) x ≡ (has_key rows x || same x r.1.0)
+pub has_last : (x : Elem) (rows : List Row) (r : Row) → has_key (rows ++ r ∷ []) x ≡ (has_key rows x || same x r.1.0)
 has_last x rows r = ap (λ rs. is_some (first_key rs)) (filter-append (λ (s : Row). same x s.1.0) rows (r ∷ [])) ∙ by_rows (pairs_of_key x rows)
   where
     alone : (b : Bool) → is_some (first_key (cond b (r ∷ []) [])) ≡ b
@@ -97,7 +97,7 @@ smaller t u (r ∷ rows) = by_case (u r) (t r) refl (smaller t u rows)
     by_case false true e s = omega arith
     by_case false false e s = s
 
-one_test : (x y : Elem) (rows : List Row) → filter (λ (r : Row). same y r.1.1 && same x r.1.0) rows ≡ rows_of_pair x y rows
+pub one_test : (x y : Elem) (rows : List Row) → filter (λ (r : Row). same y r.1.1 && same x r.1.0) rows ≡ rows_of_pair x y rows
 one_test x y rows = filter_both (λ (r : Row). same y r.1.1) (λ (r : Row). same x r.1.0) (λ (r : Row). same y r.1.1 && same x r.1.0) (λ r. refl) rows
 
 pub pairs_filtered : (u : Row → Bool) (rows : List Row) → HasDistinctPairs rows → HasDistinctPairs (filter u rows)

@@ -8,3 +8,11 @@ pub mod HeldKeys
 pub mod Results
 pub mod ReplacingLemmas
 pub mod KeyedRowsLemmas
+pub mod MovedPairs
+pub mod MovingLemmas
+pub mod ExchangingLemmas
+pub mod GroupedLemmas
+pub mod GroupedKeys
+pub mod HeldEnds
+pub mod GroupedSteps
+pub mod FoundPairs

@@ -69,7 +69,7 @@ module _ (nodes : Slab PairNode) (all : Ends) (find : Elem → Option Group) (ps
   pub key_rows : (k : Elem) → pairs_of_key k (id_rows (core_at nodes) ps) ≡ id_rows (core_at nodes) (of_key (key_at nodes) k ps)
   key_rows k = filter_ids (core_at nodes) (λ p. has k (key_at nodes p)) (λ (c : Elem × Elem). same k c.0) (λ p c e. key_of_core k (get nodes p) c e) ps there
 
-  key_there : (k : Elem) → There (core_at nodes) (of_key (key_at nodes) k ps)
+  pub key_there : (k : Elem) → There (core_at nodes) (of_key (key_at nodes) k ps)
   key_there k = there_filter (core_at nodes) (λ p. has k (key_at nodes p)) ps there
 
   pub count_read : (k : Elem) → (group_or_none (find k)).count ≡ length (pairs_of_key k (id_rows (core_at nodes) ps))
@@ -155,11 +155,11 @@ module _ (n₀ n₁ : Slab PairNode) (all : Ends) (find : Elem → Option Group)
   roomier_rows = ap (λ s. id_rows (core_at s) ps) resized
 
 -- where a new pair goes
-put_before_at : (q : ℕ) (r : Row) (us : List Row) (c : Elem × Elem) (vs : List Row) → NonePasses (nat_eq q) us → put_before (Some q) r (us ++ (q, c) ∷ vs) ≡ us ++ r ∷ (q, c) ∷ vs
+pub put_before_at : (q : ℕ) (r : Row) (us : List Row) (c : Elem × Elem) (vs : List Row) → NonePasses (nat_eq q) us → put_before (Some q) r (us ++ (q, c) ∷ vs) ≡ us ++ r ∷ (q, c) ∷ vs
 put_before_at q r [] c vs n = ap (λ b. cond b (r ∷ (q, c) ∷ vs) ((q, c) ∷ put_before (Some q) r vs)) ((Decides-eqb q q).1 refl)
 put_before_at q r (u ∷ us) c vs n = ap (λ b. cond b (r ∷ u ∷ (us ++ (q, c) ∷ vs)) (u ∷ put_before (Some q) r (us ++ (q, c) ∷ vs))) n.0 ∙ ap (λ l. u ∷ l) (put_before_at q r us c vs n.1)
 
-rows_from_at : (q : ℕ) (us : List Row) (c : Elem × Elem) (vs : List Row) → NonePasses (nat_eq q) us → rows_from (Some q) (us ++ (q, c) ∷ vs) ≡ (q, c) ∷ vs
+pub rows_from_at : (q : ℕ) (us : List Row) (c : Elem × Elem) (vs : List Row) → NonePasses (nat_eq q) us → rows_from (Some q) (us ++ (q, c) ∷ vs) ≡ (q, c) ∷ vs
 rows_from_at q [] c vs n = ap (λ b. cond b ((q, c) ∷ vs) (rows_from (Some q) vs)) ((Decides-eqb q q).1 refl)
 rows_from_at q (u ∷ us) c vs n = ap (λ b. cond b (u ∷ (us ++ (q, c) ∷ vs)) (rows_from (Some q) (us ++ (q, c) ∷ vs))) n.0 ∙ rows_from_at q us c vs n.1
 

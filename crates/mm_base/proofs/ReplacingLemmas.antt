@@ -39,7 +39,7 @@ first_split k (row ∷ rows) p e = by_case (same k row.1.0) refl (first_split k 
 
 -- rows that have no row of the key
 module _ (k : Elem) where
-  fails : (u : Row) (us : List Row) → pairs_of_key k (u ∷ us) ≡ [] → (same k u.1.0 ≡ false) × (pairs_of_key k us ≡ [])
+  pub fails : (u : Row) (us : List Row) → pairs_of_key k (u ∷ us) ≡ [] → (same k u.1.0 ≡ false) × (pairs_of_key k us ≡ [])
   fails u us e = by_case (same k u.1.0) refl e
     where
       by_case : (b : Bool) → same k u.1.0 ≡ b → cond b (u ∷ pairs_of_key k us) (pairs_of_key k us) ≡ [] → (same k u.1.0 ≡ false) × (pairs_of_key k us ≡ [])
@@ -55,7 +55,7 @@ module _ (k : Elem) where
   pub overwritten_here : (v w : Elem) (ws : List Elem) (p : ℕ) (rows : List Row) → overwritten k (v ∷ ws) ((p, (k, w)) ∷ rows) ≡ (p, (k, v)) ∷ overwritten k ws rows
   overwritten_here v w ws p rows = ap (λ b. cond b ((p, (k, v)) ∷ overwritten k ws rows) ((p, (k, w)) ∷ overwritten k (v ∷ ws) rows)) (same_equiv.refl k)
 
-  none_without : (rows : List Row) → pairs_of_key k rows ≡ [] → without_key k rows ≡ rows
+  pub none_without : (rows : List Row) → pairs_of_key k rows ≡ [] → without_key k rows ≡ rows
   none_without rows e = none_left k rows (ap length e)
 
   pub overwritten_none : (ws : List Elem) (rows : List Row) → pairs_of_key k rows ≡ [] → overwritten k ws rows ≡ rows
@@ -266,7 +266,7 @@ drop_value vs i v l e = drop-cons vs i v l ∙ (λ j. sym e j ∷ drop (sym (add
 pub take_value : (vs : List Elem) (i : ℕ) (v : Elem) → i < length vs → v ≡ get_or vs i v → take (i + 1) vs ≡ take i vs ++ v ∷ []
 take_value vs i v l e = ap (λ j. take j vs) (add-one i) ∙ take-suc vs i v l ∙ ap (λ x. take i vs ++ x ∷ []) (sym e)
 
-map_append : {A B : Type 0} (f : A → B) (xs ys : List A) → map f (xs ++ ys) ≡ map f xs ++ map f ys
+pub map_append : {A B : Type 0} (f : A → B) (xs ys : List A) → map f (xs ++ ys) ≡ map f xs ++ map f ys
 map_append f [] ys = refl
 map_append f (x ∷ xs) ys = ap (λ l. f x ∷ l) (map_append f xs ys)
 

@@ -2,4 +2,9 @@ pub mod PairNodes
 pub mod PairRows
 pub mod Replacing
 pub mod KeyedRows
+pub mod KeyValues
+pub mod PairPlaces
 pub mod LinkedPairs
+pub mod GroupedRows
+pub mod Exchanging
+pub mod Moving

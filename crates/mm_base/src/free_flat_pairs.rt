@@ -6,14 +6,18 @@ ghost use Rattle.elem.specs.Rows.{first_key, last_key, key_after, key_before};
 ghost use Rattle.std.specs.Prelude.{nat_eq};
 ghost use Rattle.mm_base.specs.PairRows.{HasDistinctIds, IsLive, pair_of, pairs_of_key, rows_beside, first_pairs, count_of, id_of, has_pair, rows_of_pair, pair_at, with_pair, put_before, rows_from, IsPut, without_id, without_pair, without_key};
 
+mod moving;
+mod neighbours;
+mod places;
+mod placing;
+mod reading;
 mod replacing;
 
-use crate::heads::{key_at, next_head, previous_head};
-use crate::pair_id::{PairId, id_at, place_of, some_id};
-use crate::pair_nodes::{PairNode, PairsOfKey, find_value, link_pair, unlink_pair, write_value};
+use crate::pair_id::{PairId, place_of};
+use crate::pair_nodes::{PairNode, link_pair, unlink_pair, write_value};
 use elem::{Elem, NoMemory};
 use linked_base::group::{Group, group_of, keep_group, write_group};
-use linked_base::thread::{Ends, nth};
+use linked_base::thread::Ends;
 use slab::Slab;
 use std::alloc::Global;
 use std::collections::HashMap;
@@ -56,104 +60,6 @@ impl FreeFlatPairs {
                 last: None,
             },
         }
-    }
-
-    /// The number of pairs.
-    pub fn len(&self) -> usize
-        ensures len { result ≡ length self.now }
-        ensures distinct { HasDistinctIds self.now }
-    {
-        self.nodes.len()
-    }
-
-    /// The number of a key's pairs.
-    pub fn count_of(&self, k: Elem) -> usize
-        ensures { result ≡ count_of k self.now }
-    {
-        group_of(&self.groups, &k).count
-    }
-
-    /// Whether there is a pair of a key and a value.
-    pub fn has(&self, k: Elem, v: Elem) -> bool
-        ensures { result ≡ has_pair k v self.now }
-    {
-        self.find(&k, &v).is_some()
-    }
-
-    /// A key's pair number `i`.
-    pub fn at(&self, k: Elem, i: usize) -> Option<PairId>
-        ensures { result ≡ id_of k i self.now }
-    {
-        some_id(self.place_at(&k, i))
-    }
-
-    /// The key and the value of a pair.
-    pub fn pair(&self, p: PairId) -> (Elem, Elem)
-        requires { IsLive self.now p }
-        ensures { pair_of self.now p ≡ Some result }
-    {
-        self.pair_at(place_of(p))
-    }
-
-    /// The first pair.
-    pub fn first_pair(&self) -> Option<PairId>
-        ensures { result ≡ first_key self.now }
-    {
-        some_id(self.all.first)
-    }
-
-    /// The pair after another.
-    pub fn after_pair(&self, p: PairId) -> Option<PairId>
-        requires { IsLive self.now p }
-        ensures { result ≡ key_after (nat_eq p) self.now }
-    {
-        some_id(self.nodes[place_of(p)].all.next)
-    }
-
-    /// The pair after another of its key.
-    pub fn after_in_key(&self, p: PairId) -> Option<PairId>
-        requires { IsLive self.now p }
-        ensures { result ≡ key_after (nat_eq p) (rows_beside (pair_of self.now p) self.now) }
-    {
-        some_id(self.next_in_key(place_of(p)))
-    }
-
-    /// The first key, in the order of the first pair of each.
-    pub fn first_key(&self) -> Option<Elem>
-        ensures { result ≡ first_key (first_pairs self.now) }
-    {
-        key_at(&self.nodes, next_head(&self.nodes, self.all.first))
-    }
-
-    /// The last key, in the order of the first pair of each.
-    pub fn last_key(&self) -> Option<Elem>
-        ensures { result ≡ last_key (first_pairs self.now) }
-    {
-        key_at(&self.nodes, previous_head(&self.nodes, self.all.last))
-    }
-
-    /// The key after another, in the order of the first pair of each.
-    pub fn after_key(&self, k: Elem) -> Option<Elem>
-        requires { 0 < count_of k self.now }
-        ensures { result ≡ key_after (same k) (first_pairs self.now) }
-    {
-        let place = self.place_at(&k, 0).unwrap();
-        key_at(
-            &self.nodes,
-            next_head(&self.nodes, self.nodes[place].all.next),
-        )
-    }
-
-    /// The key before another, in the order of the first pair of each.
-    pub fn before_key(&self, k: Elem) -> Option<Elem>
-        requires { 0 < count_of k self.now }
-        ensures { result ≡ key_before (same k) (first_pairs self.now) }
-    {
-        let place = self.place_at(&k, 0).unwrap();
-        key_at(
-            &self.nodes,
-            previous_head(&self.nodes, self.nodes[place].all.previous),
-        )
     }
 
     /// Puts a pair, last. The answer is that the size grew.
@@ -232,50 +138,6 @@ impl FreeFlatPairs {
             first: None,
             last: None,
         };
-    }
-
-    /// The place of a key's pair number `i`.
-    pub(crate) fn place_at(&self, k: &Elem, i: usize) -> Option<usize>
-        ensures place { result ≡ id_of k.now i self.now }
-        ensures distinct { HasDistinctIds self.now }
-    {
-        let group = group_of(&self.groups, k);
-        nth::<PairsOfKey, PairNode>(&self.nodes, &group.ends, i)
-    }
-
-    /// The key and the value of the pair at a place.
-    pub(crate) fn pair_at(&self, place: usize) -> (Elem, Elem)
-        requires { IsLive self.now place }
-        ensures pair { pair_of self.now place ≡ Some result }
-        ensures distinct { HasDistinctIds self.now }
-    {
-        let node = &self.nodes[place];
-        (node.key, node.value)
-    }
-
-    /// The place of the last pair.
-    fn last_place(&self) -> Option<usize>
-        ensures place { result ≡ last_key self.now }
-        ensures distinct { HasDistinctIds self.now }
-    {
-        self.all.last
-    }
-
-    /// The place of the pair after another of its key.
-    fn next_in_key(&self, place: usize) -> Option<usize>
-        requires { IsLive self.now place }
-        ensures place { result ≡ key_after (nat_eq place) (rows_beside (pair_of self.now place) self.now) }
-        ensures distinct { HasDistinctIds self.now }
-    {
-        self.nodes[place].of_key.next
-    }
-
-    /// The place of the first pair of a key and a value.
-    pub(crate) fn find(&self, k: &Elem, v: &Elem) -> Option<usize>
-        ensures { result ≡ first_key (rows_of_pair k.now v.now self.now) }
-    {
-        let group = group_of(&self.groups, k);
-        find_value(&self.nodes, &group, v)
     }
 
     /// Gives the pair at a place another value, and tells the one before.

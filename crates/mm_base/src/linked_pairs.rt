@@ -1,37 +1,49 @@
-ghost use Rattle.std.specs.Prelude.{◌≡◌, ◌+◌, ◌<◌, [], length, None, Some, nat_eq, IfOk, OnErr, MatchBool, IsTrue};
+ghost use Rattle.std.specs.Prelude.{◌≡◌, ◌+◌, ◌<◌, [], length, None, Some, nat_eq, IfOk, OnOk, OnErr, MatchBool, IsTrue};
 ghost use Rattle.elem.specs.Elements.{same};
 ghost use Rattle.elem.specs.Rows.{first_key, last_key, key_after, key_before};
 ghost use Rattle.mm_base.specs.PairRows.{HasDistinctIds, IsLive, pair_of, rows_beside, count_of, id_of, has_pair, IsPut, without_id, without_pair, without_key};
+ghost use Rattle.mm_base.specs.Exchanging.{each_once, IsExchanged};
+ghost use Rattle.mm_base.specs.Moving.{moved_last, key_last};
 ghost use Rattle.mm_base.specs.KeyedRows.{as_rows, AreKeysOf, HasDistinctPairs, with_key, keys_with_rows};
 
+use crate::distinct_values::distinct_values;
+use crate::key_values::{KeyValue, pair_place};
 use crate::linked_keys::{add_key, settle_key};
 use crate::pair_id::place_of;
+use crate::pair_places::{exchange_pairs, put_pair, remove_found, remove_key_pairs, remove_place};
 use crate::{FreeFlatPairs, PairId};
 use elem::{Elem, NoMemory, Steps};
 use linked_base::FreeLinkedMap;
 use std::alloc::Global;
+use std::collections::HashMap;
 use std::marker::Model;
 use std::sync::ledger::Ledger;
+
+mod reading;
 
 /// Pairs in the order of their putting, each once, and their keys in an order of their own, as Guava's
 /// `LinkedHashMultimap`. Each call that takes `steps` counts one.
 #[derive(Drop)]
 pub struct LinkedPairs {
     pairs: FreeFlatPairs,
+    places: HashMap<KeyValue, usize>,
     keys: FreeLinkedMap<()>,
+    alloc: Global,
 }
 
 impl Model for LinkedPairs {
     ghost use Rattle.std.specs.Map.{keys_of};
+    ghost use Rattle.std.specs.HashMap as hash;
+    ghost use Rattle.mm_base.specs.KeyValues.{same_pair};
     ghost use Rattle.mm_base.specs.KeyedRows.{KeyedRows};
 
     ghost Value = { KeyedRows };
 
-    ghost use Rattle.mm_base.specs.LinkedPairs.{keyed_rows, AreLinked};
+    ghost use Rattle.mm_base.specs.LinkedPairs.{keyed_rows, AreLinkedPairs};
 
     ghost view = { λ m. keyed_rows m.pairs m.keys };
 
-    ghost invariant = { λ m. AreLinked m.pairs m.keys };
+    ghost invariant = { λ m. AreLinkedPairs m.pairs m.keys (hash.get same_pair m.places) };
 }
 
 impl LinkedPairs {
@@ -42,123 +54,10 @@ impl LinkedPairs {
     {
         Ok(LinkedPairs {
             pairs: FreeFlatPairs::new(alloc),
+            places: HashMap::new(alloc),
             keys: FreeLinkedMap::new(alloc),
+            alloc,
         })
-    }
-
-    /// The number of pairs.
-    pub fn len(&self) -> usize
-        ensures len { result ≡ length self.now.rows }
-        ensures ids { HasDistinctIds self.now.rows }
-        ensures pairs { HasDistinctPairs self.now.rows }
-        ensures keys { AreKeysOf self.now.rows self.now.keys }
-    {
-        self.pairs.len()
-    }
-
-    /// The number of a key's pairs.
-    pub fn count_of<L: Ledger>(&self, k: Elem, steps: &mut Steps<L>) -> usize
-        ensures count { result ≡ count_of k self.now.rows }
-        ensures step { steps.new ≡ steps.old + 1 }
-    {
-        steps.tick();
-        self.pairs.count_of(k)
-    }
-
-    /// Whether there is a pair of a key and a value.
-    pub fn has<L: Ledger>(&self, k: Elem, v: Elem, steps: &mut Steps<L>) -> bool
-        ensures answer { result ≡ has_pair k v self.now.rows }
-        ensures step { steps.new ≡ steps.old + 1 }
-    {
-        steps.tick();
-        self.pairs.has(k, v)
-    }
-
-    /// A key's pair number `i`.
-    pub fn at<L: Ledger>(&self, k: Elem, i: usize, steps: &mut Steps<L>) -> Option<PairId>
-        ensures id { result ≡ id_of k i self.now.rows }
-        ensures step { steps.new ≡ steps.old + 1 }
-    {
-        steps.tick();
-        self.pairs.at(k, i)
-    }
-
-    /// The key and the value of a pair.
-    pub fn pair<L: Ledger>(&self, p: PairId, steps: &mut Steps<L>) -> (Elem, Elem)
-        requires { IsLive self.now.rows p }
-        ensures pair { pair_of self.now.rows p ≡ Some result }
-        ensures step { steps.new ≡ steps.old + 1 }
-    {
-        steps.tick();
-        self.pairs.pair(p)
-    }
-
-    /// The first pair.
-    pub fn first_pair<L: Ledger>(&self, steps: &mut Steps<L>) -> Option<PairId>
-        ensures id { result ≡ first_key self.now.rows }
-        ensures step { steps.new ≡ steps.old + 1 }
-    {
-        steps.tick();
-        self.pairs.first_pair()
-    }
-
-    /// The pair after another.
-    pub fn after_pair<L: Ledger>(&self, p: PairId, steps: &mut Steps<L>) -> Option<PairId>
-        requires { IsLive self.now.rows p }
-        ensures id { result ≡ key_after (nat_eq p) self.now.rows }
-        ensures step { steps.new ≡ steps.old + 1 }
-    {
-        steps.tick();
-        self.pairs.after_pair(p)
-    }
-
-    /// The pair after another of its key.
-    pub fn after_in_key<L: Ledger>(&self, p: PairId, steps: &mut Steps<L>) -> Option<PairId>
-        requires { IsLive self.now.rows p }
-        ensures id { result ≡ key_after (nat_eq p) (rows_beside (pair_of self.now.rows p) self.now.rows) }
-        ensures step { steps.new ≡ steps.old + 1 }
-    {
-        steps.tick();
-        self.pairs.after_in_key(p)
-    }
-
-    /// The first key.
-    pub fn first_key<L: Ledger>(&self, steps: &mut Steps<L>) -> Option<Elem>
-        ensures key { result ≡ first_key (as_rows self.now.keys) }
-        ensures step { steps.new ≡ steps.old + 1 }
-    {
-        steps.tick();
-        self.keys.first()
-    }
-
-    /// The last key.
-    pub fn last_key<L: Ledger>(&self, steps: &mut Steps<L>) -> Option<Elem>
-        ensures key { result ≡ last_key (as_rows self.now.keys) }
-        ensures step { steps.new ≡ steps.old + 1 }
-    {
-        steps.tick();
-        self.keys.last()
-    }
-
-    /// The key after another.
-    pub fn after_key<L: Ledger>(&self, k: Elem, steps: &mut Steps<L>) -> Option<Elem>
-        requires { 0 < count_of k self.now.rows }
-        ensures key { result ≡ key_after (same k) (as_rows self.now.keys) }
-        ensures step { steps.new ≡ steps.old + 1 }
-    {
-        steps.tick();
-        self.keys.after(k)
-    }
-
-    /// The key before another.
-    pub fn before_key<L: Ledger>(&self, k: Elem, steps: &mut Steps<L>) -> Option<Elem>
-        requires { 0 < count_of k self.now.rows }
-        ensures key { result ≡ key_before (same k) (as_rows self.now.keys) }
-        ensures step { steps.new ≡ steps.old + 1 }
-    {
-        steps.tick();
-        let previous = self.keys.before(k);
-        previous
     }
 
     /// Puts a pair that is not there, last, and its key last where it is new. The answer is whether the size grew.
@@ -174,11 +73,11 @@ impl LinkedPairs {
         ensures step { steps.new ≡ steps.old + 1 }
     {
         steps.tick();
-        if self.pairs.find(&k, &v).is_some() {
+        if pair_place(&self.places, &k, &v).is_some() {
             return Ok(false);
         }
         let added = add_key(&mut self.keys, &k)?;
-        if self.pairs.link(&k, &v, None, None).is_err() {
+        if put_pair(&mut self.pairs, &mut self.places, &k, &v).is_err() {
             if added {
                 self.keys.remove(k);
             }
@@ -196,7 +95,7 @@ impl LinkedPairs {
     {
         steps.tick();
         let _len = self.pairs.len();
-        let removed = self.pairs.remove_pair(k, v);
+        let removed = remove_found(&mut self.pairs, &mut self.places, &k, &v);
         settle_key(&self.pairs, &mut self.keys, &k);
         removed
     }
@@ -209,7 +108,7 @@ impl LinkedPairs {
         ensures step { steps.new ≡ steps.old + 1 }
     {
         steps.tick();
-        let count = self.pairs.remove_key(k);
+        let count = remove_key_pairs(&mut self.pairs, &mut self.places, &k);
         settle_key(&self.pairs, &mut self.keys, &k);
         count
     }
@@ -224,8 +123,57 @@ impl LinkedPairs {
         steps.tick();
         let place = place_of(p);
         let (key, _value) = self.pairs.pair_at(place);
-        self.pairs.remove_at(place);
+        remove_place(&mut self.pairs, &mut self.places, place);
         settle_key(&self.pairs, &mut self.keys, &key);
+    }
+
+    /// Drops the pairs of a key, and puts a pair for each value, an equal one once, last. The key keeps its place among
+    /// the keys; a new one comes last, and one that gets no value goes.
+    pub fn replace_values<L: Ledger>(
+        &mut self,
+        k: Elem,
+        vs: &[Elem],
+        steps: &mut Steps<L>,
+    ) -> Result<(), NoMemory>
+        ensures rows { OnOk result (IsExchanged k (each_once vs.now) self.old.rows self.new.rows) }
+        ensures keys { OnOk result (self.new.keys ≡ keys_with_rows self.new.rows (with_key k self.old.keys)) }
+        ensures err { OnErr result (self.new ≡ self.old) }
+        ensures step { steps.new ≡ steps.old + 1 }
+    {
+        steps.tick();
+        let values = distinct_values(self.alloc, vs)?;
+        let added = add_key(&mut self.keys, &k)?;
+        if exchange_pairs(&mut self.pairs, &mut self.places, &k, &values).is_err() {
+            if added {
+                self.keys.remove(k);
+            }
+            return Err(NoMemory);
+        }
+        settle_key(&self.pairs, &mut self.keys, &k);
+        Ok(())
+    }
+
+    /// Puts a pair last. Its key keeps its place. It takes no memory.
+    pub fn to_end<L: Ledger>(&mut self, p: PairId, steps: &mut Steps<L>)
+        requires { IsLive self.old.rows p }
+        ensures rows { self.new.rows ≡ moved_last p self.old.rows }
+        ensures keys { self.new.keys ≡ self.old.keys }
+        ensures step { steps.new ≡ steps.old + 1 }
+    {
+        steps.tick();
+        self.pairs.to_end(place_of(p));
+    }
+
+    /// Puts a key last among the keys. The pairs keep their places. It takes no memory.
+    pub fn key_to_end<L: Ledger>(&mut self, k: Elem, steps: &mut Steps<L>)
+        requires { 0 < count_of k self.old.rows }
+        ensures rows { self.new.rows ≡ self.old.rows }
+        ensures keys { self.new.keys ≡ key_last k self.old.keys }
+        ensures step { steps.new ≡ steps.old + 1 }
+    {
+        steps.tick();
+        self.keys.to_end(k);
+        let _len = self.keys.len();
     }
 
     /// Removes every pair and every key.
@@ -234,6 +182,7 @@ impl LinkedPairs {
         ensures keys { self.new.keys ≡ [] }
     {
         self.pairs.clear();
+        self.places.clear();
         self.keys.clear();
     }
 }

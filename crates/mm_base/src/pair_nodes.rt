@@ -123,6 +123,21 @@ pub fn unlink_pair(nodes: &mut Slab<PairNode>, all: &mut Ends, group: &mut Group
     nodes.remove(place);
 }
 
+/// Puts the node at `place` last in both threads.
+pub fn move_last(nodes: &mut Slab<PairNode>, all: &mut Ends, group: &mut Group, place: usize)
+    requires place { ContainsKey nodes.old place }
+    requires counted { 0 < group.old.count }
+    requires fits { group.old.count ≤ slab_len nodes.old }
+    ensures pairs { (us vs : List ℕ) (find : Key → Option KeyGroup) (k : Key) → key_at nodes.old place ≡ Some k → group.old ≡ group_or_none (find k) → ArePairs nodes.old all.old find (us ++ place ∷ vs) → ArePairs nodes.new all.new (with_group k group.new find) ((us ++ vs) ++ place ∷ []) }
+    ensures rows { (ps : List ℕ) → id_rows (core_at nodes.new) ps ≡ id_rows (core_at nodes.old) ps }
+    ensures count { 0 < group.new.count }
+{
+    unlink::<AllPairs, PairNode>(nodes, all, place);
+    leave::<PairsOfKey, PairNode>(nodes, group, place);
+    link_before::<AllPairs, PairNode>(nodes, all, place, None);
+    join::<PairsOfKey, PairNode>(nodes, group, place, None);
+}
+
 /// Writes the value of the node at `place`.
 pub fn write_value(nodes: &mut Slab<PairNode>, place: usize, v: &Elem)
     ensures nodes { Rewrites (λ n. record n { value = v.now }) (Some place) nodes.old nodes.new }

@@ -23,7 +23,7 @@ impl FreeFlatPairs {
     }
 
     /// Puts a pair for each value, last.
-    fn append(&mut self, k: &Elem, vs: &[Elem]) -> Result<(), NoMemory>
+    pub(crate) fn append(&mut self, k: &Elem, vs: &[Elem]) -> Result<(), NoMemory>
         ensures ok { OnOk result (IsAppended k.now vs.now self.old self.new) }
         ensures err { OnErr result (self.new ≡ self.old) }
     {
@@ -63,7 +63,7 @@ impl FreeFlatPairs {
     }
 
     /// Removes the pairs of a key from a place on.
-    fn remove_from(&mut self, k: &Elem, from: Option<usize>)
+    pub(crate) fn remove_from(&mut self, k: &Elem, from: Option<usize>)
         requires { (front : List Row) × (back : List Row) × IsCutAt k.now from self.old front back }
         ensures { (front back : List Row) → IsCutAt k.now from self.old front back → self.new ≡ front ++ without_key k.now back }
     {

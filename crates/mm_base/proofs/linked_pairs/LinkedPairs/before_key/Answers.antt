@@ -7,7 +7,7 @@ use Rattle.mm_base.proofs.KeyedRowsLemmas.{entries_are, key_present}
 use Rattle.mm_base.proofs.linked_pairs.LinkedPairs.before_key.Goals as goal
 
 pub before-previous-requires : goal.before-previous-requires
-before-previous-requires g c = key_present c.self.inside.pairs c.self.inside.keys c.args.k c.self.invariant (subst (λ (x : KeyedRows). 0 < count_of c.args.k x.rows) (sym c.self.view_is) c.requires)
+before-previous-requires g c = key_present c.self.inside.pairs c.self.inside.keys c.args.k c.self.invariant.linked (subst (λ (x : KeyedRows). 0 < count_of c.args.k x.rows) (sym c.self.view_is) c.requires)
 
 pub returns-clause-key : goal.returns-clause-key
 returns-clause-key g c = c.before-previous.ensures ∙ ap (key_before (same c.args.k)) (sym (entries_are c.self.inside.keys)) ∙ ap (λ (x : KeyedRows). key_before (same c.args.k) (as_rows x.keys)) c.self.view_is

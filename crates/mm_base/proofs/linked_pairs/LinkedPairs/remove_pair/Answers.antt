@@ -7,12 +7,12 @@ pub invariant_of-self : goal.invariant_of-self
 invariant_of-self g c =
     let m = c.self.inside in
     let k = c.args.k in
-    let less = subst (IsLess k m.pairs) (sym c.remove_pair-removed.ensures.rows) (less_pair k c.args.v m.pairs c.len-len.ensures.distinct) in
-    less_linked m.pairs c.remove_pair-removed.new.self k m.keys c.settle_key.new.keys less c.self.invariant c.settle_key.ensures.rows c.settle_key.ensures.distinct
+    let less = subst (IsLess k m.pairs) (sym c.remove_found-removed.ensures.rows) (less_pair k c.args.v m.pairs c.len-len.ensures.distinct) in
+    record { linked = less_linked m.pairs c.remove_found-removed.new.pairs k m.keys c.settle_key.new.keys less c.self.invariant.linked c.settle_key.ensures.rows c.settle_key.ensures.distinct; found = c.remove_found-removed.ensures.found }
 
 pub returns-clause-keys : goal.returns-clause-keys
 returns-clause-keys g c =
     let m = c.self.inside in
     let k = c.args.k in
-    let less = subst (IsLess k m.pairs) (sym c.remove_pair-removed.ensures.rows) (less_pair k c.args.v m.pairs c.len-len.ensures.distinct) in
-    less_keys m.pairs c.remove_pair-removed.new.self k m.keys c.settle_key.new.keys less c.self.invariant c.settle_key.ensures.rows ∙ ap (λ (x : KeyedRows). keys_with_rows c.remove_pair-removed.new.self x.keys) c.self.view_is
+    let less = subst (IsLess k m.pairs) (sym c.remove_found-removed.ensures.rows) (less_pair k c.args.v m.pairs c.len-len.ensures.distinct) in
+    less_keys m.pairs c.remove_found-removed.new.pairs k m.keys c.settle_key.new.keys less c.self.invariant.linked c.settle_key.ensures.rows ∙ ap (λ (x : KeyedRows). keys_with_rows c.remove_found-removed.new.pairs x.keys) c.self.view_is

@@ -1,0 +1,11 @@
+use Rattle.std.specs.HashMap as hash
+use Rattle.elem.specs.Elements.{same}
+use Rattle.mm_base.proofs.HeldPairs.{held, node_held}
+use Rattle.mm_base.proofs.HeldEnds.{before_held}
+use Rattle.mm_base.proofs.free_flat_pairs.FreeFlatPairs.previous_place.Goals as goal
+
+pub index-requires : goal.index-requires
+index-requires c = let find = hash.get same c.self.inside.groups in node_held find (held find c.self.invariant c.self.view_is) c.args.place c.requires
+
+pub returns : goal.returns
+returns c = let find = hash.get same c.self.inside.groups in before_held find (held find c.self.invariant c.self.view_is) c.args.place c.requires c.index.result.now c.index.ensures
