@@ -1,6 +1,7 @@
 pub mod ThreadLemmas
 pub mod NthLemmas
 pub mod PlacesLemmas
+pub mod Walks
 pub mod IdLemmas
 pub mod KeyedLemmas
 pub mod GroupLemmas
