@@ -4,3 +4,6 @@ pub mod FoundLemmas
 pub mod ThreadReads
 pub mod CellLists
 pub mod SideReads
+pub mod HeldCells
+pub mod HeldSteps
+pub mod Results

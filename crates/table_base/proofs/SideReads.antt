@@ -1,7 +1,9 @@
 -- Nodes of cells seen from either side, and where a new one goes.
 use Rattle.std.proofs.Common.{◌≡◌, ℕ, Bool, true, false, cond, List, [], ◌∷◌, ◌++◌, length, Option, Some, None, refl, sym, ap, ◌∙◌, subst, append-nil, append_assoc}
 use Rattle.std.specs.Option.{option_map}
-use Rattle.std.specs.List.{filter}
+use Rattle.std.specs.Prelude.{IsSome}
+use Rattle.std.specs.List.{filter, cons_option}
+use Rattle.elem.specs.Rows.{first_key, last_key_or}
 use Rattle.slab.specs.Slab.{Slab, get}
 use Rattle.elem.specs.declared.elements.Elem.{Elem}
 use Rattle.elem.specs.Elements.{same}
@@ -12,16 +14,16 @@ use Rattle.linked_base.specs.Thread.{head_or, last_or, IsThread, links_at}
 use Rattle.linked_base.specs.Group.{has, of_key, IsGroup}
 use Rattle.linked_base.specs.Places.{rows_of}
 use Rattle.linked_base.proofs.Walks.{split_last, no_last}
-use Rattle.linked_base.proofs.PlacesLemmas.{rows_at}
+use Rattle.linked_base.proofs.PlacesLemmas.{There, rows_at}
 use Rattle.table_base.specs.declared.cell_nodes.CellNode.{CellNode}
 use Rattle.table_base.specs.declared.sides.Side.{Side}
 use Rattle.table_base.specs.declared.sides.Side.TheVariants.{Row, Column}
 use Rattle.table_base.specs.declared.seeking.Sought.TheVariants.{OfColumn}
 use Rattle.table_base.specs.Cells.{Cell, row, turned, with_cell}
-use Rattle.table_base.specs.CellNodes.{all_links, links, key, rest, cell, key_at, rest_at, cell_at, IsSpotFor}
+use Rattle.table_base.specs.CellNodes.{all_links, links, key, rest, cell, key_at, rest_at, cell_at, seen, other_of, IsSpotFor}
 use Rattle.table_base.specs.Seeking.{passes_at, node_passes}
 use Rattle.table_base.proofs.CellLists.{with_cell_new, with_cell_behind}
-use Rattle.table_base.proofs.RowPlaces.{row_read, IsCutAt, filter_cut}
+use Rattle.table_base.proofs.RowPlaces.{row_read, transposed_read, IsCutAt, filter_cut}
 use Rattle.table_base.proofs.ThreadReads.{links_cut, node_cut}
 
 module _ (nodes : Slab CellNode) where
@@ -48,6 +50,33 @@ module _ (nodes : Slab CellNode) where
 
   pub row_seen : (s : Side) (k : Elem) (ps : List ℕ) → row k (rows_of (cell_at s nodes) ps) ≡ rows_of (rest_at s nodes) (of_key (key_at s nodes) k ps)
   row_seen s k ps = row_read (cell_at s nodes) (key_at s nodes) (rest_at s nodes) (keys_seen s) (rests_seen s) k ps
+
+  pub seen_read : (s : Side) (ps : List ℕ) → seen s (rows_of (cell_at Row nodes) ps) ≡ rows_of (cell_at s nodes) ps
+  seen_read Row ps = refl
+  seen_read Column ps = transposed_read (cell_at Row nodes) (cell_at Column nodes) turns_seen ps
+
+  -- the first and the last of places in a row
+  pub first_other : (s : Side) (ps : List ℕ) → There (rest_at s nodes) ps → other_of s nodes (head_or None ps) ≡ first_key (rows_of (rest_at s nodes) ps)
+  first_other s [] h = refl
+  first_other s (p ∷ ps) h = by_node (get nodes p) refl h.0
+    where
+      by_node : (o : Option CellNode) → get nodes p ≡ o → IsSome (option_map (rest s) (get nodes p)) → option_map (λ (n : CellNode). (rest s n).0) (get nodes p) ≡ first_key (cons_option (option_map (rest s) (get nodes p)) (rows_of (rest_at s nodes) ps))
+      by_node None g i = absurd (let j = subst (λ x. IsSome (option_map (rest s) x)) g i in cc)
+      by_node (Some n) g i = ap (option_map (λ (m : CellNode). (rest s m).0)) g ∙ sym (ap (λ o. first_key (cons_option (option_map (rest s) o) (rows_of (rest_at s nodes) ps))) g)
+
+  last_from : (s : Side) (o : Option ℕ) (ps : List ℕ) → There (rest_at s nodes) ps → other_of s nodes (last_or o ps) ≡ last_key_or (other_of s nodes o) (rows_of (rest_at s nodes) ps)
+  last_from s o [] h = refl
+  last_from s o (p ∷ ps) h = by_node (get nodes p) refl h.0 (last_from s (Some p) ps h.1)
+    where
+      by_node : (x : Option CellNode) → get nodes p ≡ x → IsSome (option_map (rest s) (get nodes p)) → other_of s nodes (last_or (Some p) ps) ≡ last_key_or (option_map (λ (n : CellNode). (rest s n).0) (get nodes p)) (rows_of (rest_at s nodes) ps)
+          → other_of s nodes (last_or (Some p) ps) ≡ last_key_or (other_of s nodes o) (cons_option (option_map (rest s) (get nodes p)) (rows_of (rest_at s nodes) ps))
+      by_node None g i r = absurd (let j = subst (λ x. IsSome (option_map (rest s) x)) g i in cc)
+      by_node (Some n) g i r =
+          r ∙ ap (λ y. last_key_or (option_map (λ (m : CellNode). (rest s m).0) y) (rows_of (rest_at s nodes) ps)) g
+          ∙ sym (ap (λ y. last_key_or (other_of s nodes o) (cons_option (option_map (rest s) y) (rows_of (rest_at s nodes) ps))) g)
+
+  pub last_other : (s : Side) (ps : List ℕ) → There (rest_at s nodes) ps → other_of s nodes (last_or None ps) ≡ last_key_or None (rows_of (rest_at s nodes) ps)
+  last_other s ps h = last_from s None ps h
 
   column_passes : (c : Elem) (p : ℕ) → passes_at (OfColumn c) nodes p ≡ has c (key_at Column nodes p)
   column_passes c p = by_node (get nodes p)

@@ -16,7 +16,7 @@ use Rattle.table_base.specs.declared.sides.Side.{Side}
 use Rattle.table_base.specs.declared.sides.Side.TheVariants.{Row, Column}
 use Rattle.table_base.specs.declared.spots.Spot.{Spot}
 use Rattle.table_base.specs.Spots.{spot_at}
-use Rattle.table_base.specs.Cells.{Cell, with_new}
+use Rattle.table_base.specs.Cells.{Cell, transposed, Table, with_new}
 
 abbrev pub all_links : CellNode → Links
 all_links n = n.all
@@ -69,6 +69,21 @@ abbrev pub spot : Side → Elem → Elem → Spot
 spot Row r c = spot_at r c
 spot Column c r = spot_at r c
 
+-- the groups of the rows, or from the other side those of the columns
+abbrev pub groups_of : (rows columns : Elem → Option Group) → Side → Elem → Option Group
+groups_of rows columns Row = rows
+groups_of rows columns Column = columns
+
+-- the cells of a table, or from the other side those of the table turned round
+abbrev pub seen : Side → List Cell → List Cell
+seen Row cells = cells
+seen Column cells = transposed cells
+
+-- the column of the node at a place, or from the other side its row
+abbrev pub other_of : Side → Slab CellNode → Option ℕ → Option Elem
+other_of s nodes None = None
+other_of s nodes (Some p) = option_map (λ (n : CellNode). (rest s n).0) (get nodes p)
+
 -- in each row, or from the other side in each column, what finds the place of a cell finds each one's, and no other
 abbrev pub AreFound : (key : ℕ → Option Elem) (rest : ℕ → Option (Elem × Elem)) (find : Elem → Elem → Option ℕ) (ps : List ℕ) → Type 0
 AreFound key rest find ps = (k : Elem) → IsIndexed rest (find k) (length (of_key key k ps)) (of_key key k ps)
@@ -84,6 +99,9 @@ places nodes all = walk (links_at all_links nodes) (slab_len nodes) all.first
 
 abbrev pub cells_now : Slab CellNode → Ends → List Cell
 cells_now nodes all = rows_of (cell_at Row nodes) (places nodes all)
+
+abbrev pub table_now : Slab CellNode → Ends → Bool → Table
+table_now nodes all loose = record { cells = cells_now nodes all; loose = loose }
 
 -- where a new cell goes in the thread of all: the places are cut there, no later one is in its row, and the cells are those with the new one
 pub record IsSpotFor (nodes : Slab CellNode) (loose : Bool) (r : Elem) (ps : List ℕ) (next : Option ℕ) : Type 0 where

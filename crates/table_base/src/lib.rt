@@ -4,7 +4,10 @@
 #![tactic(auto)]
 
 mod cell_nodes;
+mod linked_cells;
 mod linking;
 mod seeking;
 mod sides;
 mod spots;
+
+pub use linked_cells::LinkedCells;
