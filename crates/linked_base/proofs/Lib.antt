@@ -5,6 +5,7 @@ pub mod Walks
 pub mod IdLemmas
 pub mod KeyedLemmas
 pub mod GroupLemmas
+pub mod HeadLemmas
 pub mod LinkedMapLemmas
 pub mod LinkedMapSteps
 pub mod HeldRows

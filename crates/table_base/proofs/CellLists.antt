@@ -1,14 +1,15 @@
 -- Lists of cells with a new cell, with another value at a spot, and without a spot.
-use Rattle.std.proofs.Common.{◌≡◌, Bool, true, false, cond, not, ◌&&◌, List, [], ◌∷◌, ◌++◌, refl, sym, ap, ◌∙◌}
+use Rattle.std.proofs.Common.{◌≡◌, Bool, true, false, cond, not, ◌&&◌, List, [], ◌∷◌, ◌++◌, Some, refl, sym, ap, ◌∙◌}
 use Rattle.std.specs.Prelude.{is_some}
 use Rattle.std.specs.List.{filter}
+use Rattle.std.specs.Map.{lookup}
 use Rattle.std.proofs.lemmas.List.Elements.{filter-append}
 use Rattle.std.proofs.lemmas.Map.{NonePasses}
 use Rattle.elem.specs.declared.elements.Elem.{Elem}
 use Rattle.elem.specs.Elements.{same}
 use Rattle.elem.specs.ElementLaws.{same_equiv}
 use Rattle.elem.specs.Rows.{first_key}
-use Rattle.table_base.specs.Cells.{Cell, row, has_row, spot_of, is_spot, without_cell, with_value, with_cell}
+use Rattle.table_base.specs.Cells.{Cell, row, turned, transposed, value_in, has_row, spot_of, is_spot, without_cell, with_value, with_cell}
 
 -- the cell of a new row goes last
 pub with_cell_new : (x : Cell) (cells : List Cell) → row x.0 cells ≡ [] → with_cell x cells ≡ cells ++ x ∷ []
@@ -78,3 +79,16 @@ module _ (r c : Elem) where
   with_value_at v us w vs m n =
       value-append v us ((r, (c, w)) ∷ vs)
       ∙ (λ i. kept_value v us m i ++ cond (its_spot w i) (r, (c, v)) (r, (c, w)) ∷ kept_value v vs n i)
+
+-- a table turned round has the same cells
+pub turned_has : (r c : Elem) (cells : List Cell) → is_some (value_in c r (transposed cells)) ≡ is_some (value_in r c cells)
+turned_has r c [] = refl
+turned_has r c (x ∷ cells) = by_case (same r x.0) (same c x.1.0) refl refl (turned_has r c cells)
+  where
+    by_case : (a b : Bool) → same r x.0 ≡ a → same c x.1.0 ≡ b → is_some (value_in c r (transposed cells)) ≡ is_some (value_in r c cells)
+        → is_some (lookup (same r) (cond b ((turned x).1 ∷ row c (transposed cells)) (row c (transposed cells)))) ≡ is_some (lookup (same c) (cond a (x.1 ∷ row r cells) (row r cells)))
+    by_case true true i j h =
+        ap (λ b. is_some (cond b (Some x.1.1) (lookup (same r) (row c (transposed cells))))) i ∙ sym (ap (λ b. is_some (cond b (Some x.1.1) (lookup (same c) (row r cells)))) j)
+    by_case true false i j h = h ∙ sym (ap (λ b. is_some (cond b (Some x.1.1) (lookup (same c) (row r cells)))) j)
+    by_case false true i j h = ap (λ b. is_some (cond b (Some x.1.1) (lookup (same r) (row c (transposed cells))))) i ∙ h
+    by_case false false i j h = h

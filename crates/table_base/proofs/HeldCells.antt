@@ -28,6 +28,7 @@ use Rattle.table_base.specs.declared.sides.Side.TheVariants.{Row, Column}
 use Rattle.table_base.specs.declared.spots.Spot.{Spot}
 use Rattle.table_base.specs.Cells.{Cell, Table, row}
 use Rattle.table_base.specs.CellNodes.{all_links, links, key, rest, cell, key_at, rest_at, cell_at, groups_of, seen, other_of, spot, AreCells, AreFound, AreIndexed, places, cells_now, table_now}
+use Rattle.table_base.proofs.Results.{never_none}
 use Rattle.table_base.proofs.SideReads.{seen_read, row_seen, first_other, last_other}
 use Rattle.table_base.proofs.ThreadReads.{links_cut, node_there}
 
@@ -87,6 +88,11 @@ module _ {nodes : Slab CellNode} {all : Ends} {rows columns : Elem → Option Gr
       module _ (x : Elem) where
         pub absent_held : index (spot s k x) ≡ None → lookup (same x) (row k (seen s cells)) ≡ None
         absent_held e = ap (lookup (same x)) row_held ∙ absent_row (rest_at s nodes) (same x) (of_key (key_at s nodes) k h.at_places) there_held (sym ((h.are_indexed.found s k).exact x) ∙ e)
+
+        -- a cell that is there is found
+        pub found_held : (o : Option ℕ) → o ≡ index (spot s k x) → IsSome (lookup (same x) (row k (seen s cells))) → IsSome o
+        found_held None e i = absurd (never_none (lookup (same x) (row k (seen s cells))) i (absent_held (sym e)))
+        found_held (Some p) e i = refl
 
         module _ (p : ℕ) (e : index (spot s k x) ≡ Some p) where
           pub place_cut : (us : List ℕ) × (vs : List ℕ) × (r : Elem × Elem) × IsCut (rest_at s nodes) (same x) (of_key (key_at s nodes) k h.at_places) p us vs r

@@ -7,3 +7,4 @@ pub mod SideReads
 pub mod HeldCells
 pub mod HeldSteps
 pub mod Results
+pub mod RowOrder

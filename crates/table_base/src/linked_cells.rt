@@ -2,6 +2,9 @@ ghost use Rattle.std.specs.Prelude.{◌≡◌, ◌+◌, [], length, true, false,
 ghost use Rattle.table_base.specs.Cells.{HasCell, HasDistinctCells, value_in, without_cell, with_put};
 
 mod changing;
+mod column_walks;
+mod row_walks;
+mod side_reads;
 
 use crate::cell_nodes::{CellNode, write_value};
 use crate::spots::{Spot, place_of};

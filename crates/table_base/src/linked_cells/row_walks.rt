@@ -1,0 +1,50 @@
+//! Walks along the cells of a row.
+ghost use Rattle.std.specs.Prelude.{◌≡◌, ◌+◌, length};
+ghost use Rattle.elem.specs.Elements.{same};
+ghost use Rattle.elem.specs.Rows.{first_key, key_after, key_before};
+ghost use Rattle.table_base.specs.Cells.{HasCell, row};
+
+use super::LinkedCells;
+use crate::sides::Side;
+use elem::{Elem, Steps};
+use std::sync::ledger::Ledger;
+
+impl LinkedCells {
+    /// The number of cells in a row, 0 where there is no such row.
+    pub fn row_len<L: Ledger>(&self, r: Elem, steps: &mut Steps<L>) -> usize
+        ensures len { result ≡ length (row r self.now.cells) }
+        ensures step { steps.new ≡ steps.old + 1 }
+    {
+        steps.tick();
+        self.count_in(Side::Row, &r)
+    }
+
+    /// The column of the first cell in a row.
+    pub fn first_in_row<L: Ledger>(&self, r: Elem, steps: &mut Steps<L>) -> Option<Elem>
+        ensures column { result ≡ first_key (row r self.now.cells) }
+        ensures step { steps.new ≡ steps.old + 1 }
+    {
+        steps.tick();
+        self.first_in(Side::Row, &r)
+    }
+
+    /// The column after another in a row.
+    pub fn after_in_row<L: Ledger>(&self, r: Elem, c: Elem, steps: &mut Steps<L>) -> Option<Elem>
+        requires { HasCell r c self.now.cells }
+        ensures column { result ≡ key_after (same c) (row r self.now.cells) }
+        ensures step { steps.new ≡ steps.old + 1 }
+    {
+        steps.tick();
+        self.after_in(Side::Row, &r, &c)
+    }
+
+    /// The column before another in a row.
+    pub fn before_in_row<L: Ledger>(&self, r: Elem, c: Elem, steps: &mut Steps<L>) -> Option<Elem>
+        requires { HasCell r c self.now.cells }
+        ensures column { result ≡ key_before (same c) (row r self.now.cells) }
+        ensures step { steps.new ≡ steps.old + 1 }
+    {
+        steps.tick();
+        self.before_in(Side::Row, &r, &c)
+    }
+}
