@@ -8,3 +8,4 @@ pub mod HeldCells
 pub mod HeldSteps
 pub mod Results
 pub mod RowOrder
+pub mod HeldOrder

@@ -1,5 +1,5 @@
 -- Tables as lists of cells: what is read from them, and what the calls make of them.
-use Rattle.std.specs.Prelude.{◌≡◌, ℕ, Bool, true, false, cond, not, ◌&&◌, List, [], ◌∷◌, ◌++◌, length, Option, Some, None, IsSome, is_some}
+use Rattle.std.specs.Prelude.{◌≡◌, ◌<◌, ℕ, Bool, true, false, cond, not, ◌&&◌, List, [], ◌∷◌, ◌++◌, length, Option, Some, None, IsSome, is_some}
 use Rattle.std.specs.List.{filter}
 use Rattle.std.specs.Map.{lookup}
 use Rattle.elem.specs.declared.elements.Elem.{Elem}
@@ -48,11 +48,15 @@ first_of_rows (x ∷ cells) = x ∷ filter (λ (y : Cell). not (same x.0 y.0)) (
 abbrev pub first_of_columns : List Cell → List Cell
 first_of_columns cells = first_of_rows (transposed cells)
 
+-- the row has a cell
+abbrev pub HasRow : Elem → List Cell → Type 0
+HasRow r cells = 0 < length (row r cells)
+
+abbrev pub HasColumn : Elem → List Cell → Type 0
+HasColumn c cells = HasRow c (transposed cells)
+
 abbrev pub has_row : Elem → List Cell → Bool
 has_row r cells = is_some (first_key (row r cells))
-
-abbrev pub has_column : Elem → List Cell → Bool
-has_column c cells = has_row c (transposed cells)
 
 abbrev pub spot_of : Cell → Elem × Elem
 spot_of x = (x.0, x.1.0)

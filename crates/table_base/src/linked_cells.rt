@@ -5,6 +5,7 @@ mod changing;
 mod column_walks;
 mod row_walks;
 mod side_reads;
+mod side_walks;
 
 use crate::cell_nodes::{CellNode, write_value};
 use crate::spots::{Spot, place_of};

@@ -1,8 +1,8 @@
-//! Walks along the cells of a column.
+//! Walks along the columns, and along the cells of a column.
 ghost use Rattle.std.specs.Prelude.{◌≡◌, ◌+◌, length, IsSome};
 ghost use Rattle.elem.specs.Elements.{same};
 ghost use Rattle.elem.specs.Rows.{first_key, key_after};
-ghost use Rattle.table_base.specs.Cells.{HasCell, column, value_in};
+ghost use Rattle.table_base.specs.Cells.{HasCell, HasColumn, column, value_in, first_of_columns};
 
 use super::LinkedCells;
 use crate::sides::Side;
@@ -17,6 +17,26 @@ impl LinkedCells {
     {
         steps.tick();
         self.count_in(Side::Column, &c)
+    }
+
+    /// The first column, in the order of the first cell of each.
+    pub fn first_column<L: Ledger>(&self, steps: &mut Steps<L>) -> Option<Elem>
+        ensures column { result ≡ first_key (first_of_columns self.now.cells) }
+        ensures step { steps.new ≡ steps.old + 1 }
+    {
+        steps.tick();
+        self.first_key(Side::Column)
+    }
+
+    /// The column after another, in the order of the first cell of each. It goes along the cells behind the column's
+    /// first up to the next that is the first of a column, so that a walk along all columns passes each cell once.
+    pub fn after_column<L: Ledger>(&self, c: Elem, steps: &mut Steps<L>) -> Option<Elem>
+        requires { HasColumn c self.now.cells }
+        ensures column { result ≡ key_after (same c) (first_of_columns self.now.cells) }
+        ensures step { steps.new ≡ steps.old + 1 }
+    {
+        steps.tick();
+        self.after_key(Side::Column, &c)
     }
 
     /// The row of the first cell in a column.

@@ -1,8 +1,8 @@
-//! Walks along the cells of a row.
+//! Walks along the rows, and along the cells of a row.
 ghost use Rattle.std.specs.Prelude.{◌≡◌, ◌+◌, length};
 ghost use Rattle.elem.specs.Elements.{same};
 ghost use Rattle.elem.specs.Rows.{first_key, key_after, key_before};
-ghost use Rattle.table_base.specs.Cells.{HasCell, row};
+ghost use Rattle.table_base.specs.Cells.{HasCell, HasRow, row, first_of_rows};
 
 use super::LinkedCells;
 use crate::sides::Side;
@@ -17,6 +17,35 @@ impl LinkedCells {
     {
         steps.tick();
         self.count_in(Side::Row, &r)
+    }
+
+    /// The first row, in the order of the first cell of each.
+    pub fn first_row<L: Ledger>(&self, steps: &mut Steps<L>) -> Option<Elem>
+        ensures row { result ≡ first_key (first_of_rows self.now.cells) }
+        ensures step { steps.new ≡ steps.old + 1 }
+    {
+        steps.tick();
+        self.first_key(Side::Row)
+    }
+
+    /// The row after another, in the order of the first cell of each.
+    pub fn after_row<L: Ledger>(&self, r: Elem, steps: &mut Steps<L>) -> Option<Elem>
+        requires { HasRow r self.now.cells }
+        ensures row { result ≡ key_after (same r) (first_of_rows self.now.cells) }
+        ensures step { steps.new ≡ steps.old + 1 }
+    {
+        steps.tick();
+        self.after_key(Side::Row, &r)
+    }
+
+    /// The row before another, in the order of the first cell of each.
+    pub fn before_row<L: Ledger>(&self, r: Elem, steps: &mut Steps<L>) -> Option<Elem>
+        requires { HasRow r self.now.cells }
+        ensures row { result ≡ key_before (same r) (first_of_rows self.now.cells) }
+        ensures step { steps.new ≡ steps.old + 1 }
+    {
+        steps.tick();
+        self.before_key(Side::Row, &r)
     }
 
     /// The column of the first cell in a row.

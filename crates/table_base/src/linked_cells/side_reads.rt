@@ -59,7 +59,7 @@ impl LinkedCells {
 }
 
 /// The group of a row or a column.
-fn group_at(
+pub(super) fn group_at(
     rows: &HashMap<Elem, Group>,
     columns: &HashMap<Elem, Group>,
     side: Side,
@@ -74,7 +74,12 @@ fn group_at(
 }
 
 /// The place of the cell of a row and a column, or from the other side of a column and a row.
-fn place_at(index: &HashMap<Spot, usize>, side: Side, k: &Elem, x: &Elem) -> Option<usize>
+pub(super) fn place_at(
+    index: &HashMap<Spot, usize>,
+    side: Side,
+    k: &Elem,
+    x: &Elem,
+) -> Option<usize>
     ensures { result ≡ hash.get same_spot index.now (spot side k.now x.now) }
 {
     match side {
