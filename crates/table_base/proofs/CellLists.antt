@@ -43,7 +43,7 @@ with_cell_behind x (u ∷ us) y vs t e =
 
 -- cells beside that of a row and a column
 module _ (r c : Elem) where
-  split_none : (x : Cell) (cells : List Cell) → NonePasses (same c) (row r (x ∷ cells)) → (is_spot r c (spot_of x) ≡ false) × NonePasses (same c) (row r cells)
+  pub split_none : (x : Cell) (cells : List Cell) → NonePasses (same c) (row r (x ∷ cells)) → (is_spot r c (spot_of x) ≡ false) × NonePasses (same c) (row r cells)
   split_none x cells n = by_case (same r x.0) n
     where
       by_case : (b : Bool) → NonePasses (same c) (cond b (x.1 ∷ row r cells) (row r cells)) → ((b && same c x.1.0) ≡ false) × NonePasses (same c) (row r cells)
@@ -62,7 +62,7 @@ module _ (r c : Elem) where
       let s = split_none x cells n in
       ap (λ b. cond b (r, (c, v)) x ∷ with_value r c v cells) s.0 ∙ ap (λ l. x ∷ l) (kept_value v cells s.1)
 
-  its_spot : (w : Elem) → is_spot r c (spot_of (r, (c, w))) ≡ true
+  pub its_spot : (w : Elem) → is_spot r c (spot_of (r, (c, w))) ≡ true
   its_spot w = λ i. same_equiv.refl r i && same_equiv.refl c i
 
   -- a list cut at the cell

@@ -2,7 +2,7 @@
 use Rattle.std.proofs.Common.{◌≡◌, ◌≢◌, ℕ, ◌+◌, ◌≤◌, Bool, true, false, cond, ◌&&◌, List, [], ◌∷◌, ◌++◌, length, Option, Some, None, refl, sym, ap, ◌∙◌, subst, inl, inr, arith, length-append}
 use Rattle.std.specs.Prelude.{IsSome}
 use Rattle.std.specs.Option.{option_map}
-use Rattle.std.specs.List.{filter}
+use Rattle.std.specs.List.{filter, cons_option}
 use Rattle.std.specs.Map.{lookup}
 use Rattle.std.proofs.lemmas.Map.{NonePasses}
 use Rattle.std.proofs.lemmas.Bool.{cases_eq}
@@ -10,6 +10,9 @@ use Rattle.slab.specs.Slab.{Slab, get, slab_len}
 use Rattle.elem.specs.declared.elements.Elem.{Elem}
 use Rattle.elem.specs.Elements.{same}
 use Rattle.elem.specs.ElementLaws.{same-Decides}
+use Rattle.elem.specs.Rows.{first_key, key_after}
+use Rattle.elem.proofs.RowsLemmas.{key_after_at}
+use Rattle.linked_base.specs.declared.links.Links.{Links}
 use Rattle.linked_base.specs.declared.links.Ends.{Ends}
 use Rattle.linked_base.specs.declared.group.Group.{Group}
 use Rattle.linked_base.specs.Thread.{head_or, Avoids, IsThread, links_at, Rewrites}
@@ -17,7 +20,7 @@ use Rattle.linked_base.specs.Group.{group_or_none, IsGroup, has, of_key}
 use Rattle.linked_base.specs.Places.{rows_of, IsIndexed}
 use Rattle.linked_base.proofs.ThreadLemmas.{apart_without, avoids_cut}
 use Rattle.linked_base.proofs.GroupLemmas.{thread_same, same_everywhere, grouped_same, group_cut, group_there}
-use Rattle.linked_base.proofs.PlacesLemmas.{There, rows_at, rows-append, rows_beside}
+use Rattle.linked_base.proofs.PlacesLemmas.{There, there_right, rows_at, rows-append, rows_beside}
 use Rattle.linked_base.proofs.IdLemmas.{thread_there, there_filter, fresh}
 use Rattle.linked_base.proofs.KeyedLemmas.{keyed_at, absent_place}
 use Rattle.table_base.specs.declared.cell_nodes.CellNode.{CellNode}
@@ -25,13 +28,14 @@ use Rattle.table_base.specs.declared.sides.Side.{Side}
 use Rattle.table_base.specs.declared.sides.Side.TheVariants.{Row, Column}
 use Rattle.table_base.specs.declared.spots.Spot.{Spot}
 use Rattle.table_base.specs.Spots.{spot_at, same_spot, same_spot_at}
-use Rattle.table_base.specs.Cells.{Cell, row, without_cell, with_value, with_new}
-use Rattle.table_base.specs.CellNodes.{all_links, links, key, rest, cell, key_at, rest_at, cell_at, the_node, with_group, spot, AreCells, AreFound, AreIndexed, IsSpotFor}
-use Rattle.table_base.proofs.CellLists.{without_cell_at, with_value_at}
+use Rattle.table_base.specs.Cells.{Cell, row, is_spot, by_spot, without_cell, with_value, with_new}
+use Rattle.table_base.specs.CellNodes.{all_links, links, key, rest, cell, key_at, rest_at, cell_at, the_node, with_group, spot, spot_of_place, AreCells, AreFound, AreIndexed, IsSpotFor}
+use Rattle.table_base.proofs.CellLists.{its_spot, without_cell_at, with_value_at}
+use Rattle.table_base.proofs.RemovedCells.{spots-append, none_at_spot}
 use Rattle.table_base.proofs.RowPlaces.{IsCutAt, filter_cut}
 use Rattle.table_base.proofs.SideReads.{keys_seen, rests_seen, row_seen}
 use Rattle.table_base.proofs.FoundLemmas.{found_with, found_without, indexed_written}
-use Rattle.table_base.proofs.ThreadReads.{node_there}
+use Rattle.table_base.proofs.ThreadReads.{links_cut, node_there}
 use Rattle.table_base.proofs.HeldCells.{HoldsCells, row_held, there_held, place_cut, own_other, rest_held, none_beside}
 
 -- an index where one spot's answer changes, from either side
@@ -61,7 +65,21 @@ module _ (n₀ n₁ : Slab CellNode) (q : ℕ) (others : (s : Side) (p : ℕ) �
   rest_beside : (s : Side) (p : ℕ) → p ≢ q → rest_at s n₁ p ≡ rest_at s n₀ p
   rest_beside s p d = rests_seen n₁ s p ∙ ap (option_map (λ (x : Cell). x.1)) (others s p d) ∙ sym (rests_seen n₀ s p)
 
+-- the spot of the first of some places
+first_spot : (nodes : Slab CellNode) (ps : List ℕ) → There (cell_at Row nodes) ps → spot_of_place nodes (head_or None ps) ≡ first_key (by_spot (rows_of (cell_at Row nodes) ps))
+first_spot nodes [] t = refl
+first_spot nodes (p ∷ ps) t = by_node (get nodes p) t.0
+  where
+    by_node : (o : Option CellNode) → IsSome (option_map (cell Row) o) → option_map (λ (n : CellNode). (n.row, n.column)) o ≡ first_key (by_spot (cons_option (option_map (cell Row) o) (rows_of (cell_at Row nodes) ps)))
+    by_node None i = absurd (cc)
+    by_node (Some n) i = refl
+
 module _ {nodes : Slab CellNode} {all : Ends} {rows columns : Elem → Option Group} {index : Spot → Option ℕ} {cells : List Cell} (h : HoldsCells nodes all rows columns index cells) where
+  pub first_cell_held : spot_of_place nodes all.first ≡ first_key (by_spot cells)
+  first_cell_held =
+      ap (spot_of_place nodes) h.are_indexed.cells.thread.first ∙ first_spot nodes h.at_places (thread_there all_links (cell Row) nodes all h.at_places h.are_indexed.cells.thread)
+      ∙ ap (λ l. first_key (by_spot l)) h.cells_equal
+
   pub spot_held : (loose : Bool) (r : Elem) (g : Group) (next : Option ℕ)
       → ((ps : List ℕ) (e : Ends) (k : Elem) → IsThread (links_at all_links nodes) e ps → IsGroup (links_at (links Row) nodes) g (of_key (key_at Row nodes) k ps) → IsSpotFor nodes loose k ps next)
       → g ≡ group_or_none (rows r) → IsSpotFor nodes loose r h.at_places next
@@ -172,6 +190,16 @@ module _ {nodes : Slab CellNode} {all : Ends} {rows columns : Elem → Option Gr
 
       cells_cut : cells ≡ rows_of (cell_at Row nodes) all_cut.before ++ (r, (c, n.value)) ∷ rows_of (cell_at Row nodes) all_cut.after
       cells_cut = sym h.cells_equal ∙ ap (rows_of (cell_at Row nodes)) all_cut.places ∙ rows_at (cell_at Row nodes) all_cut.before p all_cut.after (r, (c, n.value)) cell_here
+
+      -- the spot of the next cell in the thread of all
+      pub after_cell_held : spot_of_place nodes n.all.next ≡ key_after (is_spot r c) (by_spot cells)
+      after_cell_held =
+          let fs = rows_of (cell_at Row nodes) all_cut.before in
+          let bs = rows_of (cell_at Row nodes) all_cut.after in
+          ap (λ (l : Links). spot_of_place nodes l.next) (links_cut all_links nodes all all_cut.before p all_cut.after cut_cells.thread n g)
+          ∙ first_spot nodes all_cut.after (there_right (cell_at Row nodes) all_cut.before (p ∷ all_cut.after) (thread_there all_links (cell Row) nodes all (all_cut.before ++ p ∷ all_cut.after) cut_cells.thread)).1
+          ∙ sym (ap (λ l. key_after (is_spot r c) (by_spot l)) cells_cut ∙ ap (key_after (is_spot r c)) (spots-append fs ((r, (c, n.value)) ∷ bs))
+          ∙ key_after_at (is_spot r c) (by_spot fs) ((r, c), n.value) (by_spot bs) (none_at_spot r c fs none_front) (its_spot r c n.value))
 
       beside_it : Avoids (Some p) (all_cut.before ++ all_cut.after)
       beside_it = (apart_without all_cut.before p all_cut.after cut_cells.thread.apart).1

@@ -1,11 +1,12 @@
+pub mod Results
+pub mod CellLists
+pub mod RemovedCells
 pub mod CellSteps
 pub mod RowPlaces
 pub mod FoundLemmas
 pub mod ThreadReads
-pub mod CellLists
 pub mod SideReads
 pub mod HeldCells
 pub mod HeldSteps
-pub mod Results
 pub mod RowOrder
 pub mod HeldOrder

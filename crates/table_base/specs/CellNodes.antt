@@ -89,6 +89,11 @@ abbrev pub key_of : Side → Slab CellNode → Option ℕ → Option Elem
 key_of s nodes None = None
 key_of s nodes (Some p) = key_at s nodes p
 
+-- the row and the column of the node at a place
+abbrev pub spot_of_place : Slab CellNode → Option ℕ → Option (Elem × Elem)
+spot_of_place nodes None = None
+spot_of_place nodes (Some p) = option_map (λ (n : CellNode). (n.row, n.column)) (get nodes p)
+
 -- in each row, or from the other side in each column, what finds the place of a cell finds each one's, and no other
 abbrev pub AreFound : (key : ℕ → Option Elem) (rest : ℕ → Option (Elem × Elem)) (find : Elem → Elem → Option ℕ) (ps : List ℕ) → Type 0
 AreFound key rest find ps = (k : Elem) → IsIndexed rest (find k) (length (of_key key k ps)) (of_key key k ps)

@@ -1,9 +1,11 @@
 ghost use Rattle.std.specs.Prelude.{◌≡◌, ◌+◌, [], length, true, false, IsOk, IfOk, OnOk, OnErr};
 ghost use Rattle.table_base.specs.Cells.{HasCell, HasDistinctCells, value_in, without_cell, with_put};
 
+mod cell_walks;
 mod changing;
 mod column_walks;
 mod row_walks;
+mod side_changes;
 mod side_reads;
 mod side_walks;
 

@@ -1,8 +1,8 @@
-//! Walks along the columns, and along the cells of a column.
+//! Columns: their number, walks along them and along their cells, and the removal of one.
 ghost use Rattle.std.specs.Prelude.{◌≡◌, ◌+◌, length, IsSome};
 ghost use Rattle.elem.specs.Elements.{same};
 ghost use Rattle.elem.specs.Rows.{first_key, key_after};
-ghost use Rattle.table_base.specs.Cells.{HasCell, HasColumn, column, value_in, first_of_columns};
+ghost use Rattle.table_base.specs.Cells.{HasCell, HasColumn, column, value_in, first_of_columns, without_column};
 
 use super::LinkedCells;
 use crate::sides::Side;
@@ -56,5 +56,16 @@ impl LinkedCells {
     {
         steps.tick();
         self.after_in(Side::Column, &c, &r)
+    }
+
+    /// Removes the cells of a column, and tells their number.
+    pub fn remove_column<L: Ledger>(&mut self, c: Elem, steps: &mut Steps<L>) -> usize
+        ensures answer { result ≡ length (column c self.old.cells) }
+        ensures cells { self.new.cells ≡ without_column c self.old.cells }
+        ensures kind { self.new.loose ≡ self.old.loose }
+        ensures step { steps.new ≡ steps.old + 1 }
+    {
+        steps.tick();
+        self.remove_all(Side::Column, &c)
     }
 }

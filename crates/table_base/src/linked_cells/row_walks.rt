@@ -1,8 +1,8 @@
-//! Walks along the rows, and along the cells of a row.
+//! Rows: their number, walks along them and along their cells, and the removal of one.
 ghost use Rattle.std.specs.Prelude.{◌≡◌, ◌+◌, length};
 ghost use Rattle.elem.specs.Elements.{same};
 ghost use Rattle.elem.specs.Rows.{first_key, key_after, key_before};
-ghost use Rattle.table_base.specs.Cells.{HasCell, HasRow, row, first_of_rows};
+ghost use Rattle.table_base.specs.Cells.{HasCell, HasRow, row, first_of_rows, without_row};
 
 use super::LinkedCells;
 use crate::sides::Side;
@@ -75,5 +75,16 @@ impl LinkedCells {
     {
         steps.tick();
         self.before_in(Side::Row, &r, &c)
+    }
+
+    /// Removes the cells of a row, and tells their number.
+    pub fn remove_row<L: Ledger>(&mut self, r: Elem, steps: &mut Steps<L>) -> usize
+        ensures answer { result ≡ length (row r self.old.cells) }
+        ensures cells { self.new.cells ≡ without_row r self.old.cells }
+        ensures kind { self.new.loose ≡ self.old.loose }
+        ensures step { steps.new ≡ steps.old + 1 }
+    {
+        steps.tick();
+        self.remove_all(Side::Row, &r)
     }
 }

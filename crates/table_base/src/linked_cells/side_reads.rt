@@ -3,6 +3,7 @@ ghost use Rattle.std.specs.Prelude.{◌≡◌, ℕ, length, Some, IsSome};
 ghost use Rattle.std.specs.HashMap as hash;
 ghost use Rattle.slab.specs.Slab.{ContainsKey};
 ghost use Rattle.elem.specs.Elements.{same};
+ghost use Rattle.elem.specs.Keyed.{HasDistinctKeys};
 ghost use Rattle.elem.specs.Rows.{first_key, key_after, key_before};
 ghost use Rattle.linked_base.specs.Group.{group_or_none};
 ghost use Rattle.table_base.specs.Spots.{same_spot};
@@ -29,7 +30,8 @@ impl LinkedCells {
 
     /// The column of the first cell in a row.
     pub(crate) fn first_in(&self, side: Side, k: &Elem) -> Option<Elem>
-        ensures { result ≡ first_key (row k.now (seen side self.now.cells)) }
+        ensures distinct { HasDistinctKeys (row k.now (seen side self.now.cells)) }
+        ensures column { result ≡ first_key (row k.now (seen side self.now.cells)) }
     {
         let group = group_at(&self.rows, &self.columns, side, k);
         other_of(&self.nodes, side, group.ends.first)
