@@ -9,5 +9,7 @@ mod linking;
 mod seeking;
 mod sides;
 mod spots;
+#[cfg(test)]
+mod tests;
 
 pub use linked_cells::LinkedCells;
