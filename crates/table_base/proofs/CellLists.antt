@@ -20,7 +20,7 @@ with_cell_new x (y ∷ cells) e = by_case (same x.0 y.0) (with_cell_new x cells)
     by_case true r f = absurd (cc)
     by_case false r f = ap (λ l. y ∷ l) (r f)
 
-row_there : (r : Elem) (us : List Cell) (y : Cell) (vs : List Cell) → same r y.0 ≡ true → has_row r (us ++ y ∷ vs) ≡ true
+pub row_there : (r : Elem) (us : List Cell) (y : Cell) (vs : List Cell) → same r y.0 ≡ true → has_row r (us ++ y ∷ vs) ≡ true
 row_there r [] y vs t = ap (λ b. is_some (first_key (cond b (y.1 ∷ row r vs) (row r vs)))) t
 row_there r (u ∷ us) y vs t = by_case (same r u.0) (row_there r us y vs t)
   where

@@ -26,8 +26,8 @@ use Rattle.table_base.specs.declared.cell_nodes.CellNode.{CellNode}
 use Rattle.table_base.specs.declared.sides.Side.{Side}
 use Rattle.table_base.specs.declared.sides.Side.TheVariants.{Row, Column}
 use Rattle.table_base.specs.declared.spots.Spot.{Spot}
-use Rattle.table_base.specs.Cells.{Cell, Table, row}
-use Rattle.table_base.specs.CellNodes.{all_links, links, key, rest, cell, key_at, rest_at, cell_at, groups_of, seen, other_of, spot, AreCells, AreFound, AreIndexed, places, cells_now, table_now}
+use Rattle.table_base.specs.Cells.{Cell, IsGrouped, Table, row}
+use Rattle.table_base.specs.CellNodes.{all_links, links, key, rest, cell, key_at, rest_at, cell_at, groups_of, seen, other_of, spot, AreCells, AreFound, AreIndexed, places, cells_now, IsTable, table_now}
 use Rattle.table_base.proofs.Results.{never_none}
 use Rattle.table_base.proofs.SideReads.{seen_read, row_seen, first_other, last_other}
 use Rattle.table_base.proofs.ThreadReads.{links_cut, node_there}
@@ -179,3 +179,10 @@ roomier_held n₀ n₁ {all} {rows} {columns} {index} {cells} resized h = subst 
 -- the fields show this table
 pub shown : {nodes : Slab CellNode} {all : Ends} {rows columns : Elem → Option Group} {index : Spot → Option ℕ} (t : Table) (loose : Bool) → HoldsCells nodes all rows columns index t.cells → loose ≡ t.loose → table_now nodes all loose ≡ t
 shown t loose h e = λ i. record { cells = shows h i; loose = e i }
+
+-- a table by its fields and the cells that they hold
+pub is_table : {nodes : Slab CellNode} {all : Ends} {rows columns : Elem → Option Group} {index : Spot → Option ℕ} {cells : List Cell} (loose : Bool) → HoldsCells nodes all rows columns index cells → (loose ≡ false → IsGrouped cells) → IsTable nodes all rows columns index loose
+is_table loose h g = record { indexed = still_holds h; grouped = λ e. subst IsGrouped (sym (shows h)) (g e) }
+
+pub was_grouped : {now cells : List Cell} (loose : Bool) → now ≡ cells → (loose ≡ false → IsGrouped now) → loose ≡ false → IsGrouped cells
+was_grouped loose e g f = subst IsGrouped e (g f)

@@ -12,24 +12,25 @@ use Rattle.linked_base.specs.declared.links.Links.{Links}
 use Rattle.linked_base.specs.declared.links.Ends.{Ends}
 use Rattle.linked_base.specs.declared.group.Group.{Group}
 use Rattle.linked_base.specs.Thread.{head_or, last_or, IsThread, links_at}
-use Rattle.linked_base.specs.Group.{group_or_none, has, of_key, AreGrouped}
+use Rattle.linked_base.specs.Group.{group_or_none, has, of_key, IsGroup, AreGrouped}
 use Rattle.linked_base.specs.Places.{rows_of}
 use Rattle.linked_base.proofs.GroupLemmas.{group_cut}
 use Rattle.linked_base.proofs.HeadLemmas.{none_iff_empty, is_unseen}
-use Rattle.linked_base.proofs.PlacesLemmas.{There, length-rows, there_left, there_right}
+use Rattle.linked_base.proofs.PlacesLemmas.{There, length-rows, rows_at, there_left, there_right}
 use Rattle.linked_base.proofs.IdLemmas.{thread_there, there_filter}
 use Rattle.table_base.specs.declared.cell_nodes.CellNode.{CellNode}
 use Rattle.table_base.specs.declared.seeking.Sought.TheVariants.{First}
 use Rattle.table_base.specs.declared.sides.Side.{Side}
 use Rattle.table_base.specs.declared.sides.Side.TheVariants.{Row, Column}
 use Rattle.table_base.specs.declared.spots.Spot.{Spot}
-use Rattle.table_base.specs.Cells.{Cell, row, first_of_rows}
+use Rattle.table_base.specs.Cells.{Cell, row, IsGrouped, first_of_rows}
 use Rattle.table_base.specs.CellNodes.{all_links, links, key, cell, key_at, rest_at, cell_at, groups_of, seen, key_of}
 use Rattle.table_base.specs.Seeking.{passes_at, node_passes}
 use Rattle.table_base.proofs.RowPlaces.{IsCutAt, filter_cut}
-use Rattle.table_base.proofs.SideReads.{keys_seen, seen_read}
+use Rattle.table_base.proofs.SideReads.{keys_seen, seen_read, row_seen, last_cut}
 use Rattle.table_base.proofs.ThreadReads.{links_cut, node_cut, node_there}
 use Rattle.table_base.proofs.HeldCells.{HoldsCells, grouped_held, row_held, there_held}
+use Rattle.table_base.proofs.GroupedOrder.{after_grouped, before_grouped}
 use Rattle.table_base.proofs.RowOrder.{TellsHeads, after_first, before_first}
 
 -- the rows at the ends of a list of places
@@ -144,3 +145,60 @@ module _ {nodes : Slab CellNode} {all : Ends} {rows columns : Elem → Option Gr
             ∙ last_from nodes s None (filter (passes_at (First s) nodes) us) (there_filter (cell_at s nodes) (passes_at (First s) nodes) us (there_left (cell_at s nodes) us (q ∷ first_cut.1.after) cut_there))
             ∙ before_first (cell_at s nodes) (key_at s nodes) (keys_seen nodes s) (passes_at (First s) nodes) h.at_places heads us q first_cut.1.after first_cut.1.places cut_there cells_there (cell s n) (ap (option_map (cell s)) i) first_of_key
             ∙ (λ j. key_before (same (own j)) (first_of_rows (seen_held j)))
+
+-- the rows of a table that is not loose
+module _ {nodes : Slab CellNode} {all : Ends} {rows columns : Elem → Option Group} {index : Spot → Option ℕ} {cells : List Cell} (h : HoldsCells nodes all rows columns index cells) (grouped : IsGrouped cells) (k : Elem) (some : 0 < length (row k cells)) (g : Group) (e : g ≡ group_or_none (rows k)) where
+  its_group : IsGroup (links_at (links Row) nodes) g (of_key (key_at Row nodes) k h.at_places)
+  its_group = subst (λ x. IsGroup (links_at (links Row) nodes) x (of_key (key_at Row nodes) k h.at_places)) (sym e) (h.are_indexed.cells.in_rows.group k)
+
+  pub last_there : IsSome g.ends.last
+  last_there = subst IsSome (sym its_group.thread.last) (by_list (of_key (key_at Row nodes) k h.at_places) (counted h Row k some g e))
+    where
+      some_last : (x : ℕ) (xs : List ℕ) → IsSome (last_or (Some x) xs)
+      some_last x [] = refl
+      some_last x (y ∷ xs) = some_last y xs
+
+      by_list : (xs : List ℕ) → 0 < length xs → IsSome (last_or None xs)
+      by_list [] l = absurd (omega arith)
+      by_list (x ∷ xs) l = some_last x xs
+
+  module _ (us : List ℕ) (p : ℕ) (vs : List ℕ) (cut : h.at_places ≡ us ++ p ∷ vs) (n : CellNode) (i : get nodes p ≡ Some n) (own : has k (key_at Row nodes p) ≡ true) where
+    at_cut : IsThread (links_at all_links nodes) all (us ++ p ∷ vs)
+    at_cut = subst (IsThread (links_at all_links nodes) all) cut h.are_indexed.cells.thread
+
+    there_at : There (cell_at Row nodes) (us ++ p ∷ vs)
+    there_at = subst (There (cell_at Row nodes)) cut (cells_there h Row)
+
+    cells_at : rows_of (cell_at Row nodes) us ++ cell Row n ∷ rows_of (cell_at Row nodes) vs ≡ cells
+    cells_at = sym (rows_at (cell_at Row nodes) us p vs (cell Row n) (ap (option_map (cell Row)) i)) ∙ ap (rows_of (cell_at Row nodes)) (sym cut) ∙ h.cells_equal
+
+    own_row : same k n.row ≡ true
+    own_row = sym (ap (λ o. has k (option_map (key Row) o)) i) ∙ own
+
+    pub behind_held : of_key (key_at Row nodes) k vs ≡ [] → key_of Row nodes n.all.next ≡ key_after (same k) (first_of_rows cells)
+    behind_held none =
+        ap (λ (l : Links). key_of Row nodes l.next) (links_cut all_links nodes all us p vs at_cut n i) ∙ first_of nodes Row vs (there_right (cell_at Row nodes) us (p ∷ vs) there_at).1
+        ∙ sym (after_grouped k (rows_of (cell_at Row nodes) us) (cell Row n) (rows_of (cell_at Row nodes) vs) own_row (row_seen nodes Row k vs ∙ ap (rows_of (rest_at Row nodes)) none) (subst IsGrouped (sym cells_at) grouped))
+        ∙ ap (λ l. key_after (same k) (first_of_rows l)) cells_at
+
+    pub ahead_held : of_key (key_at Row nodes) k us ≡ [] → key_of Row nodes n.all.previous ≡ key_before (same k) (first_of_rows cells)
+    ahead_held none =
+        ap (λ (l : Links). key_of Row nodes l.previous) (links_cut all_links nodes all us p vs at_cut n i) ∙ last_from nodes Row None us (there_left (cell_at Row nodes) us (p ∷ vs) there_at)
+        ∙ sym (before_grouped None k (rows_of (cell_at Row nodes) us) (cell Row n) (rows_of (cell_at Row nodes) vs) own_row (row_seen nodes Row k us ∙ ap (rows_of (rest_at Row nodes)) none) (subst IsGrouped (sym cells_at) grouped))
+        ∙ ap (λ l. key_before (same k) (first_of_rows l)) cells_at
+
+  -- at the last place of the row
+  module _ (p : ℕ) (f : g.ends.last ≡ Some p) where
+    row_end : (us : List ℕ) × IsCutAt (λ q. has k (key_at Row nodes q)) h.at_places us p []
+    row_end = last_cut nodes k h.at_places all g h.are_indexed.cells.thread its_group p f
+
+    pub last_node : IsSome (get nodes p)
+    last_node = node_there all_links nodes all row_end.1.before p row_end.1.after (subst (IsThread (links_at all_links nodes) all) row_end.1.places h.are_indexed.cells.thread)
+
+    pub row_behind_held : (n : CellNode) → get nodes p ≡ Some n → key_of Row nodes n.all.next ≡ key_after (same k) (first_of_rows cells)
+    row_behind_held n i = behind_held row_end.1.before p row_end.1.after row_end.1.places n i row_end.1.passes row_end.1.back
+
+  -- at its first
+  module _ (p : ℕ) (f : g.ends.first ≡ Some p) where
+    pub row_ahead_held : (n : CellNode) → get nodes p ≡ Some n → key_of Row nodes n.all.previous ≡ key_before (same k) (first_of_rows cells)
+    row_ahead_held n i = let d = (first_cut h Row k some g e p f).1 in ahead_held d.before p d.after d.places n i d.passes d.front

@@ -1,6 +1,8 @@
 pub mod Results
 pub mod CellLists
 pub mod RemovedCells
+pub mod GroupedCells
+pub mod GroupedOrder
 pub mod CellSteps
 pub mod RowPlaces
 pub mod FoundLemmas

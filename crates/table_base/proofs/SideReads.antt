@@ -107,7 +107,7 @@ module _ (nodes : Slab CellNode) (r : Elem) (ps : List ℕ) where
         }
 
     module _ (p : ℕ) (e : g.ends.last ≡ Some p) where
-      last_cut : (us : List ℕ) × IsCutAt (λ q. has r (key_at Row nodes q)) ps us p []
+      pub last_cut : (us : List ℕ) × IsCutAt (λ q. has r (key_at Row nodes q)) ps us p []
       last_cut =
           let d = split_last (of_key (key_at Row nodes) r ps) p (sym h.thread.last ∙ e) in
           (d.0, filter_cut (λ q. has r (key_at Row nodes q)) ps d.0 p [] d.1)

@@ -16,7 +16,7 @@ use Rattle.table_base.specs.declared.sides.Side.{Side}
 use Rattle.table_base.specs.declared.sides.Side.TheVariants.{Row, Column}
 use Rattle.table_base.specs.declared.spots.Spot.{Spot}
 use Rattle.table_base.specs.Spots.{spot_at}
-use Rattle.table_base.specs.Cells.{Cell, transposed, Table, with_new}
+use Rattle.table_base.specs.Cells.{Cell, transposed, IsGrouped, Table, with_new}
 
 abbrev pub all_links : CellNode → Links
 all_links n = n.all
@@ -98,7 +98,7 @@ spot_of_place nodes (Some p) = option_map (λ (n : CellNode). (n.row, n.column))
 abbrev pub AreFound : (key : ℕ → Option Elem) (rest : ℕ → Option (Elem × Elem)) (find : Elem → Elem → Option ℕ) (ps : List ℕ) → Type 0
 AreFound key rest find ps = (k : Elem) → IsIndexed rest (find k) (length (of_key key k ps)) (of_key key k ps)
 
--- what the fields of a table are: its threads at these places, and the index of its cells
+-- the threads of these places, and the index of their cells
 pub record AreIndexed (nodes : Slab CellNode) (all : Ends) (rows columns : Elem → Option Group) (index : Spot → Option ℕ) (ps : List ℕ) : Type 0 where
   pub cells : AreCells nodes all rows columns ps
   pub found : (s : Side) → AreFound (key_at s nodes) (rest_at s nodes) (λ k x. index (spot s k x)) ps
@@ -109,6 +109,11 @@ places nodes all = walk (links_at all_links nodes) (slab_len nodes) all.first
 
 abbrev pub cells_now : Slab CellNode → Ends → List Cell
 cells_now nodes all = rows_of (cell_at Row nodes) (places nodes all)
+
+-- what the fields of a table are. Unless it is loose the cells of each row stand together.
+pub record IsTable (nodes : Slab CellNode) (all : Ends) (rows columns : Elem → Option Group) (index : Spot → Option ℕ) (loose : Bool) : Type 0 where
+  pub indexed : AreIndexed nodes all rows columns index (places nodes all)
+  pub grouped : loose ≡ false → IsGrouped (cells_now nodes all)
 
 abbrev pub table_now : Slab CellNode → Ends → Bool → Table
 table_now nodes all loose = record { cells = cells_now nodes all; loose = loose }

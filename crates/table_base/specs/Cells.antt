@@ -39,6 +39,16 @@ HasCell r c cells = IsSome (value_in r c cells)
 abbrev pub HasDistinctCells : List Cell → Type 0
 HasDistinctCells cells = (r : Elem) → HasDistinctKeys (row r cells)
 
+-- the cells from the first on that is of another row
+abbrev pub past_row : Elem → List Cell → List Cell
+past_row r [] = []
+past_row r (x ∷ cells) = cond (same r x.0) (past_row r cells) (x ∷ cells)
+
+-- the cells of each row stand together: past it none of the row comes
+abbrev pub IsGrouped : List Cell → Type 0
+IsGrouped [] = Unit {0}
+IsGrouped (x ∷ cells) = (row x.0 (past_row x.0 cells) ≡ []) × IsGrouped cells
+
 -- the first cell of each row, in order
 abbrev pub first_of_rows : List Cell → List Cell
 first_of_rows [] = []

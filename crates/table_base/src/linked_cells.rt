@@ -1,9 +1,10 @@
 ghost use Rattle.std.specs.Prelude.{◌≡◌, ◌+◌, [], length, true, false, IsOk, IfOk, OnOk, OnErr};
-ghost use Rattle.table_base.specs.Cells.{HasCell, HasDistinctCells, value_in, without_cell, with_put};
+ghost use Rattle.table_base.specs.Cells.{HasCell, HasDistinctCells, IsGrouped, value_in, without_cell, with_put};
 
 mod cell_walks;
 mod changing;
 mod column_walks;
+mod grouped_walks;
 mod row_walks;
 mod side_changes;
 mod side_reads;
@@ -40,11 +41,11 @@ impl Model for LinkedCells {
 
     ghost Value = { Table };
 
-    ghost use Rattle.table_base.specs.CellNodes.{table_now, places, AreIndexed};
+    ghost use Rattle.table_base.specs.CellNodes.{table_now, IsTable};
 
     ghost view = { λ m. table_now m.nodes m.all m.loose };
 
-    ghost invariant = { λ m. AreIndexed m.nodes m.all (hash.get same m.rows) (hash.get same m.columns) (hash.get same_spot m.index) (places m.nodes m.all) };
+    ghost invariant = { λ m. IsTable m.nodes m.all (hash.get same m.rows) (hash.get same m.columns) (hash.get same_spot m.index) m.loose };
 }
 
 impl LinkedCells {
@@ -69,6 +70,7 @@ impl LinkedCells {
     pub fn len(&self) -> usize
         ensures len { result ≡ length self.now.cells }
         ensures distinct { HasDistinctCells self.now.cells }
+        ensures grouped { self.now.loose ≡ false → IsGrouped self.now.cells }
     {
         self.nodes.len()
     }

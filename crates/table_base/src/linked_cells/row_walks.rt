@@ -35,7 +35,10 @@ impl LinkedCells {
         ensures step { steps.new ≡ steps.old + 1 }
     {
         steps.tick();
-        self.after_key(Side::Row, &r)
+        if self.loose {
+            return self.after_key(Side::Row, &r);
+        }
+        self.row_behind(&r)
     }
 
     /// The row before another, in the order of the first cell of each.
@@ -45,7 +48,10 @@ impl LinkedCells {
         ensures step { steps.new ≡ steps.old + 1 }
     {
         steps.tick();
-        self.before_key(Side::Row, &r)
+        if self.loose {
+            return self.before_key(Side::Row, &r);
+        }
+        self.row_ahead(&r)
     }
 
     /// The column of the first cell in a row.

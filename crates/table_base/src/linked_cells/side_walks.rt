@@ -48,7 +48,7 @@ impl LinkedCells {
 }
 
 /// The row of the node at a place, or from the other side its column.
-fn key_of(nodes: &Slab<CellNode>, side: Side, place: Option<usize>) -> Option<Elem>
+pub(super) fn key_of(nodes: &Slab<CellNode>, side: Side, place: Option<usize>) -> Option<Elem>
     ensures { result ≡ key_of side nodes.now place }
 {
     let node = nodes.get(place?)?;

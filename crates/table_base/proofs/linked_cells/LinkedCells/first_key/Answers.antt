@@ -5,4 +5,4 @@ use Rattle.table_base.proofs.HeldOrder.{first_key_held}
 use Rattle.table_base.proofs.linked_cells.LinkedCells.first_key.Goals as goal
 
 pub returns : goal.returns
-returns c = c.key_of.ensures ∙ first_key_held (held c.self.invariant (ap (λ (t : Table). t.cells) c.self.view_is)) c.args.side
+returns c = c.key_of.ensures ∙ first_key_held (held c.self.invariant.indexed (ap (λ (t : Table). t.cells) c.self.view_is)) c.args.side
