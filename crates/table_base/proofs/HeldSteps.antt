@@ -107,6 +107,19 @@ module _ {nodes : Slab CellNode} {all : Ends} {rows columns : Elem → Option Gr
         clause d.before d.after all d.start spot_thread few
         (subst (λ x. IsGroup (links_at (links Column) nodes) x (of_key (key_at Column nodes) c (d.before ++ d.after))) (sym e) (subst (λ l. IsGroup (links_at (links Column) nodes) (group_or_none (columns c)) (of_key (key_at Column nodes) c l)) d.cut (h.are_indexed.cells.in_columns.group c)))
 
+    pub in_column_held : (c : Elem) (next_in_column : Option ℕ) → next_in_column ≡ head_or None (of_key (key_at Column nodes) c d.after) → (p : ℕ) → next_in_column ≡ Some p → IsSome (get nodes p)
+    in_column_held c next_in_column i p e =
+        by_list (of_key (key_at Column nodes) c d.after) (sym i ∙ e)
+        (there_filter (cell_at Row nodes) (λ q. has c (key_at Column nodes q)) d.after (there_right (cell_at Row nodes) d.before d.after (thread_there all_links (cell Row) nodes all (d.before ++ d.after) spot_thread)))
+      where
+        some_node : (x : Option CellNode) → IsSome (option_map (cell Row) x) → IsSome x
+        some_node None s = absurd (cc)
+        some_node (Some n) s = refl
+
+        by_list : (xs : List ℕ) → head_or None xs ≡ Some p → There (cell_at Row nodes) xs → IsSome (get nodes p)
+        by_list [] f t = absurd (cc)
+        by_list (x ∷ xs) f t = let equal : x ≡ p = cc in subst (λ y. IsSome (get nodes y)) equal (some_node (get nodes x) t.0)
+
   -- a cell put in, where its step does what it says for each list of places
   module _ (n₁ : Slab CellNode) (e₁ : Ends) (r₀ r₁ c₀ c₁ : Group) (r c v : Elem) (loose : Bool) (next next_in_column : Option ℕ) (q : ℕ) (found : Spot → Option ℕ) (d : IsSpotFor nodes loose r h.at_places next)
       (vacant : get nodes q ≡ None) (here : (s : Side) → cell_at s n₁ q ≡ Some (cell s (the_node r c v))) (others : (s : Side) (p : ℕ) → p ≢ q → cell_at s n₁ p ≡ cell_at s nodes p) (finds : (x : Spot) → found x ≡ cond (same_spot (spot_at r c) x) (Some q) (index x))

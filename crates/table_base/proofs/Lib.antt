@@ -8,6 +8,7 @@ pub mod RowPlaces
 pub mod FoundLemmas
 pub mod ThreadReads
 pub mod SideReads
+pub mod ColumnPlaces
 pub mod HeldCells
 pub mod HeldSteps
 pub mod RowOrder

@@ -1,11 +1,11 @@
 ghost use Rattle.std.specs.Prelude.{◌≡◌, ◌+◌, [], length, true, false, IsOk, IfOk, OnOk, OnErr};
 ghost use Rattle.table_base.specs.Cells.{HasCell, HasDistinctCells, IsGrouped, value_in, without_cell, with_put};
 
-mod cell_walks;
+mod all_cells;
 mod changing;
-mod column_walks;
+mod columns;
 mod grouped_walks;
-mod row_walks;
+mod rows;
 mod side_changes;
 mod side_reads;
 mod side_walks;
@@ -21,8 +21,8 @@ use std::collections::HashMap;
 use std::marker::Model;
 use std::sync::ledger::Ledger;
 
-/// A table of cells, a new cell last in its row and a new row last, as Guava's `LinkedHashBasedTable` might be. Rows and
-/// columns go by their first cell. Each call that takes `steps` counts one.
+/// A table of cells, a new cell last in its row and a new row last, as Guava's `Tables.newCustomTable` over linked hash
+/// maps. Rows and columns go by their first cell. Each call that takes `steps` counts one.
 #[derive(Drop)]
 pub struct LinkedCells {
     nodes: Slab<CellNode>,
@@ -87,6 +87,9 @@ impl LinkedCells {
 
     /// Puts a value at a row and a column, and tells the one before. A cell that is there keeps its place, which takes no
     /// memory. A new one goes last in its row, or last of all where its row is new or the table loose.
+    ///
+    /// Where the column has cells and the row is not the last, the new cell's place in the column is sought from the row's
+    /// end along the cells, both ways up to the nearer cell of the column. Else a put takes no walk.
     pub fn put<L: Ledger>(
         &mut self,
         r: Elem,

@@ -97,19 +97,62 @@ pub fn place_behind(nodes: &Slab<CellNode>, in_row: &Group, loose: bool) -> Opti
     node.all.next
 }
 
-/// The first place of a column from `from` on, sought along the thread of all. A column with no cell, and the end of the
-/// thread, take one step.
+/// The first place of a column from `from` on. A column with no cell, and the end of the thread, take no walk.
 pub fn place_in_column(
     nodes: &Slab<CellNode>,
     in_column: &Group,
     from: Option<usize>,
     c: &Elem,
 ) -> Option<usize>
-    ensures there { (p : ℕ) → result ≡ Some p → ContainsKey nodes.now p }
-    ensures found { (us vs : List ℕ) (all : TheEnds) → from ≡ head_or None vs → IsThread (links_at all_links nodes.now) all (us ++ vs) → length vs ≤ slab_len nodes.now → IsGroup (links_at (links Column) nodes.now) in_column.now (of_key (key_at Column nodes.now) c.now (us ++ vs)) → result ≡ head_or None (of_key (key_at Column nodes.now) c.now vs) }
+    ensures { (us vs : List ℕ) (all : TheEnds) → from ≡ head_or None vs → IsThread (links_at all_links nodes.now) all (us ++ vs) → length vs ≤ slab_len nodes.now → IsGroup (links_at (links Column) nodes.now) in_column.now (of_key (key_at Column nodes.now) c.now (us ++ vs)) → result ≡ head_or None (of_key (key_at Column nodes.now) c.now vs) }
 {
     if in_column.count == 0 {
         return None;
     }
-    next_sought(nodes, from, &Sought::OfColumn(*c))
+    let Some(place) = from else {
+        return None;
+    };
+    let Some(node) = nodes.get(place) else {
+        return None;
+    };
+    next_of_column(nodes, in_column, from, node.all.previous, c)
+}
+
+/// The first place of a column from `from` on, sought both ways along the thread of all: from `from` on for the cell, and
+/// from `before` back for the one that it follows in the column.
+fn next_of_column(
+    nodes: &Slab<CellNode>,
+    in_column: &Group,
+    from: Option<usize>,
+    before: Option<usize>,
+    c: &Elem,
+) -> Option<usize>
+    ensures { (us vs : List ℕ) (all : TheEnds) → from ≡ head_or None vs → before ≡ last_or None us → IsThread (links_at all_links nodes.now) all (us ++ vs) → length vs ≤ slab_len nodes.now → IsGroup (links_at (links Column) nodes.now) in_column.now (of_key (key_at Column nodes.now) c.now (us ++ vs)) → result ≡ head_or None (of_key (key_at Column nodes.now) c.now vs) }
+{
+    let sought = Sought::OfColumn(*c);
+    let mut ahead = from;
+    let mut behind = before;
+    for _step in 0..nodes.len() {
+        let Some(next) = ahead else {
+            return None;
+        };
+        let Some(later) = nodes.get(next) else {
+            return None;
+        };
+        if passes(later, &sought) {
+            return Some(next);
+        }
+        let Some(previous) = behind else {
+            return in_column.ends.first;
+        };
+        let Some(earlier) = nodes.get(previous) else {
+            return None;
+        };
+        if passes(earlier, &sought) {
+            return earlier.in_column.next;
+        }
+        ahead = later.all.next;
+        behind = earlier.all.previous;
+    }
+    None
 }
