@@ -1,5 +1,5 @@
 -- A cell put into its threads, and one taken out.
-use Rattle.std.proofs.Common.{◌≡◌, ◌≢◌, ℕ, ◌+◌, ◌≤◌, List, [], ◌∷◌, ◌++◌, length, Option, Some, None, refl, sym, ap, ◌∙◌, subst, arith, length-append}
+use Rattle.std.proofs.Common.{◌≡◌, ◌≢◌, ℕ, ◌+◌, List, ◌∷◌, ◌++◌, Option, Some, None, refl, ap, ◌∙◌, arith, length-append}
 use Rattle.std.specs.Option.{option_map}
 use Rattle.slab.specs.Slab.{Slab, get, slab_len, Updates}
 use Rattle.elem.specs.declared.elements.Elem.{Elem}
@@ -7,8 +7,8 @@ use Rattle.linked_base.specs.declared.links.Links.{Links}
 use Rattle.linked_base.specs.declared.links.Ends.{Ends}
 use Rattle.linked_base.specs.declared.group.Group.{Group}
 use Rattle.linked_base.specs.Thread.{Avoids, IsThread, links_at, KeepsRest}
-use Rattle.linked_base.specs.Group.{group_or_none, IsGroup, of_key, AreGrouped}
-use Rattle.linked_base.proofs.ThreadLemmas.{apart_without, avoids_cut}
+use Rattle.linked_base.specs.Group.{group_or_none, IsGroup, of_key}
+use Rattle.linked_base.proofs.ThreadLemmas.{apart_without}
 use Rattle.linked_base.proofs.GroupLemmas.{thread_same, same_beside, same_everywhere, join_start, join_finish, leave_start, leave_finish, kept}
 use Rattle.linked_base.proofs.IdLemmas.{fresh}
 use Rattle.table_base.specs.declared.cell_nodes.CellNode.{CellNode}

@@ -1,7 +1,7 @@
 -- What finds the places of cells, row by row: a cell put in, one taken out, and one written in its place.
-use Rattle.std.proofs.Common.{◌≡◌, ◌≢◌, ℕ, ◌+◌, Bool, true, false, cond, List, [], ◌∷◌, ◌++◌, length, Option, Some, None, refl, sym, ap, ◌∙◌, subst, arith, length-append}
+use Rattle.std.proofs.Common.{◌≡◌, ◌≢◌, ℕ, Bool, true, false, cond, List, [], ◌∷◌, ◌++◌, length, Option, Some, None, refl, sym, ap, ◌∙◌, subst, arith, length-append}
 use Rattle.std.specs.Option.{option_map}
-use Rattle.std.specs.List.{filter, cons_option, IsDistinct}
+use Rattle.std.specs.List.{cons_option, IsDistinct}
 use Rattle.std.specs.Map.{lookup, keys_of}
 use Rattle.std.proofs.lemmas.List.Elements.{filter-append}
 use Rattle.elem.specs.declared.elements.Elem.{Elem}
@@ -9,7 +9,7 @@ use Rattle.elem.specs.Elements.{same}
 use Rattle.elem.specs.ElementLaws.{same-Decides, same_equiv}
 use Rattle.linked_base.specs.Thread.{Avoids}
 use Rattle.linked_base.specs.Group.{has, of_key}
-use Rattle.linked_base.specs.Places.{rows_of, keyed, IsIndexed}
+use Rattle.linked_base.specs.Places.{keyed, IsIndexed}
 use Rattle.linked_base.proofs.ThreadLemmas.{avoids_cut}
 use Rattle.linked_base.proofs.GroupLemmas.{avoids_filter, filter_beside, key_beside, own_cut}
 use Rattle.linked_base.proofs.PlacesLemmas.{There, rows_beside}

@@ -1,12 +1,12 @@
 -- Cells whose rows each stand together: what keeps them so, and the rows' order then.
-use Rattle.std.proofs.Common.{◌≡◌, ◌⊎◌, inl, inr, Bool, true, false, cond, not, ◌&&◌, List, [], ◌∷◌, ◌++◌, Option, Some, None, refl, sym, ap, ◌∙◌, subst}
+use Rattle.std.proofs.Common.{◌≡◌, ◌⊎◌, inl, inr, Bool, true, false, cond, not, ◌&&◌, List, [], ◌∷◌, ◌++◌, refl, sym, ap, ◌∙◌, subst}
 use Rattle.std.specs.Prelude.{is_some}
 use Rattle.std.specs.List.{filter}
 use Rattle.elem.specs.declared.elements.Elem.{Elem}
 use Rattle.elem.specs.Elements.{same}
 use Rattle.elem.specs.ElementLaws.{same-Decides, same_equiv}
-use Rattle.elem.specs.Rows.{first_key, last_key_or, key_after}
-use Rattle.table_base.specs.Cells.{Cell, row, spot_of, is_spot, past_row, IsGrouped, has_row, first_of_rows, with_value, with_cell, Table, with_new}
+use Rattle.elem.specs.Rows.{first_key}
+use Rattle.table_base.specs.Cells.{Cell, row, spot_of, is_spot, past_row, IsGrouped, has_row, with_value, with_cell, Table, with_new}
 
 both_true : (a b : Bool) → (a && b) ≡ true → a ≡ true
 both_true true b e = refl

@@ -1,13 +1,13 @@
 -- The order of rows that each stand together: the next begins behind the last cell of a row, and the one before ends ahead of its first.
-use Rattle.std.proofs.Common.{◌≡◌, Bool, true, false, cond, not, List, [], ◌∷◌, ◌++◌, Option, Some, None, refl, sym, ap, ◌∙◌, subst}
+use Rattle.std.proofs.Common.{◌≡◌, Bool, true, false, cond, not, List, [], ◌∷◌, ◌++◌, Option, Some, refl, sym, ap, ◌∙◌, subst}
 use Rattle.std.specs.Prelude.{is_some}
 use Rattle.std.specs.List.{filter}
 use Rattle.std.proofs.lemmas.Map.{NonePasses}
 use Rattle.elem.specs.declared.elements.Elem.{Elem}
 use Rattle.elem.specs.Elements.{same}
-use Rattle.elem.specs.ElementLaws.{same-Decides, same_equiv}
+use Rattle.elem.specs.ElementLaws.{same-Decides}
 use Rattle.elem.specs.Rows.{first_key, last_key_or, key_after, key_before_or}
-use Rattle.table_base.specs.Cells.{Cell, row, past_row, IsGrouped, has_row, first_of_rows}
+use Rattle.table_base.specs.Cells.{Cell, row, past_row, IsGrouped, first_of_rows}
 use Rattle.table_base.proofs.CellLists.{row_there}
 
 -- the cells of other rows than r

@@ -1,8 +1,8 @@
 -- What the fields of a table hold.
-use Rattle.std.proofs.Common.{◌≡◌, ◌≢◌, ℕ, ◌+◌, ◌≤◌, Bool, true, false, cond, ◌&&◌, List, [], ◌∷◌, ◌++◌, length, Option, Some, None, refl, sym, ap, ◌∙◌, subst, arith}
+use Rattle.std.proofs.Common.{◌≡◌, ℕ, ◌≤◌, Bool, false, List, ◌∷◌, ◌++◌, length, Option, Some, None, refl, sym, ap, ◌∙◌, subst, arith}
 use Rattle.std.specs.Prelude.{IsSome}
 use Rattle.std.specs.Option.{option_map}
-use Rattle.std.specs.List.{filter, IsDistinct}
+use Rattle.std.specs.List.{IsDistinct}
 use Rattle.std.specs.Map.{lookup, keys_of}
 use Rattle.std.proofs.lemmas.Map.{NonePasses}
 use Rattle.slab.specs.Slab.{Slab, get, slab_len}
@@ -14,9 +14,9 @@ use Rattle.elem.proofs.RowsLemmas.{lookup_at, key_after_at, key_before_at}
 use Rattle.linked_base.specs.declared.links.Links.{Links}
 use Rattle.linked_base.specs.declared.links.Ends.{Ends}
 use Rattle.linked_base.specs.declared.group.Group.{Group}
-use Rattle.linked_base.specs.Thread.{head_or, last_or, IsThread, links_at}
-use Rattle.linked_base.specs.Group.{group_or_none, IsGroup, has, of_key, AreGrouped}
-use Rattle.linked_base.specs.Places.{rows_of, keyed, IsIndexed}
+use Rattle.linked_base.specs.Thread.{IsThread, links_at}
+use Rattle.linked_base.specs.Group.{group_or_none, has, of_key, AreGrouped}
+use Rattle.linked_base.specs.Places.{rows_of}
 use Rattle.linked_base.proofs.ThreadLemmas.{thread_walked}
 use Rattle.linked_base.proofs.GroupLemmas.{length-filter_le, grouped_same}
 use Rattle.linked_base.proofs.PlacesLemmas.{There, length-rows, there_left, there_right, rows_at}
@@ -27,7 +27,7 @@ use Rattle.table_base.specs.declared.sides.Side.{Side}
 use Rattle.table_base.specs.declared.sides.Side.TheVariants.{Row, Column}
 use Rattle.table_base.specs.declared.spots.Spot.{Spot}
 use Rattle.table_base.specs.Cells.{Cell, IsGrouped, Table, row}
-use Rattle.table_base.specs.CellNodes.{all_links, links, key, rest, cell, key_at, rest_at, cell_at, groups_of, seen, other_of, spot, AreCells, AreFound, AreIndexed, places, cells_now, IsTable, table_now}
+use Rattle.table_base.specs.CellNodes.{all_links, links, rest, cell, key_at, rest_at, cell_at, groups_of, seen, other_of, spot, AreIndexed, places, cells_now, IsTable, table_now}
 use Rattle.table_base.proofs.Results.{never_none}
 use Rattle.table_base.proofs.SideReads.{seen_read, row_seen, first_other, last_other}
 use Rattle.table_base.proofs.ThreadReads.{links_cut, node_there}

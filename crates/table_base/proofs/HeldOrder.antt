@@ -1,5 +1,5 @@
 -- The order of the rows, or from the other side of the columns, in the fields of a table.
-use Rattle.std.proofs.Common.{◌≡◌, ℕ, suc, ◌≤◌, ◌<◌, Bool, true, false, List, [], ◌∷◌, ◌++◌, length, Option, Some, None, refl, sym, ap, ◌∙◌, subst, arith, length-append, append_assoc, ◌+◌}
+use Rattle.std.proofs.Common.{◌≡◌, ℕ, suc, ◌≤◌, ◌<◌, true, List, [], ◌∷◌, ◌++◌, length, Option, Some, None, refl, sym, ap, ◌∙◌, subst, arith, length-append, append_assoc, ◌+◌}
 use Rattle.std.specs.Prelude.{IsSome}
 use Rattle.std.specs.Option.{option_map, is_none}
 use Rattle.std.specs.List.{filter, cons_option}
@@ -21,14 +21,14 @@ use Rattle.linked_base.proofs.IdLemmas.{thread_there, there_filter}
 use Rattle.table_base.specs.declared.cell_nodes.CellNode.{CellNode}
 use Rattle.table_base.specs.declared.seeking.Sought.TheVariants.{First}
 use Rattle.table_base.specs.declared.sides.Side.{Side}
-use Rattle.table_base.specs.declared.sides.Side.TheVariants.{Row, Column}
+use Rattle.table_base.specs.declared.sides.Side.TheVariants.{Row}
 use Rattle.table_base.specs.declared.spots.Spot.{Spot}
 use Rattle.table_base.specs.Cells.{Cell, row, IsGrouped, first_of_rows}
 use Rattle.table_base.specs.CellNodes.{all_links, links, key, cell, key_at, rest_at, cell_at, groups_of, seen, key_of}
 use Rattle.table_base.specs.Seeking.{passes_at, node_passes}
 use Rattle.table_base.proofs.RowPlaces.{IsCutAt, filter_cut}
 use Rattle.table_base.proofs.SideReads.{keys_seen, seen_read, row_seen, last_cut}
-use Rattle.table_base.proofs.ThreadReads.{links_cut, node_cut, node_there}
+use Rattle.table_base.proofs.ThreadReads.{links_cut, node_there}
 use Rattle.table_base.proofs.HeldCells.{HoldsCells, grouped_held, row_held, there_held}
 use Rattle.table_base.proofs.GroupedOrder.{after_grouped, before_grouped}
 use Rattle.table_base.proofs.RowOrder.{TellsHeads, after_first, before_first}

@@ -1,5 +1,5 @@
 -- What each step makes of the cells that the fields of a table hold.
-use Rattle.std.proofs.Common.{◌≡◌, ◌≢◌, ℕ, ◌+◌, ◌≤◌, Bool, true, false, cond, ◌&&◌, List, [], ◌∷◌, ◌++◌, length, Option, Some, None, refl, sym, ap, ◌∙◌, subst, inl, inr, arith, length-append}
+use Rattle.std.proofs.Common.{◌≡◌, ◌≢◌, ℕ, ◌≤◌, Bool, true, false, cond, ◌&&◌, List, [], ◌∷◌, ◌++◌, length, Option, Some, None, refl, sym, ap, ◌∙◌, subst, inl, inr, arith, length-append}
 use Rattle.std.specs.Prelude.{IsSome}
 use Rattle.std.specs.Option.{option_map}
 use Rattle.std.specs.List.{filter, cons_option}
@@ -22,14 +22,14 @@ use Rattle.linked_base.proofs.ThreadLemmas.{apart_without, avoids_cut}
 use Rattle.linked_base.proofs.GroupLemmas.{thread_same, same_everywhere, grouped_same, group_cut, group_there}
 use Rattle.linked_base.proofs.PlacesLemmas.{There, there_right, rows_at, rows-append, rows_beside}
 use Rattle.linked_base.proofs.IdLemmas.{thread_there, there_filter, fresh}
-use Rattle.linked_base.proofs.KeyedLemmas.{keyed_at, absent_place}
+use Rattle.linked_base.proofs.KeyedLemmas.{absent_place}
 use Rattle.table_base.specs.declared.cell_nodes.CellNode.{CellNode}
 use Rattle.table_base.specs.declared.sides.Side.{Side}
 use Rattle.table_base.specs.declared.sides.Side.TheVariants.{Row, Column}
 use Rattle.table_base.specs.declared.spots.Spot.{Spot}
 use Rattle.table_base.specs.Spots.{spot_at, same_spot, same_spot_at}
 use Rattle.table_base.specs.Cells.{Cell, row, is_spot, by_spot, without_cell, with_value, with_new}
-use Rattle.table_base.specs.CellNodes.{all_links, links, key, rest, cell, key_at, rest_at, cell_at, the_node, with_group, spot, spot_of_place, AreCells, AreFound, AreIndexed, IsSpotFor}
+use Rattle.table_base.specs.CellNodes.{all_links, links, key, rest, cell, key_at, rest_at, cell_at, the_node, with_group, spot, spot_of_place, AreCells, AreFound, IsSpotFor}
 use Rattle.table_base.proofs.CellLists.{its_spot, without_cell_at, with_value_at}
 use Rattle.table_base.proofs.RemovedCells.{spots-append, none_at_spot}
 use Rattle.table_base.proofs.RowPlaces.{IsCutAt, filter_cut}

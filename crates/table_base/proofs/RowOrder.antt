@@ -1,5 +1,5 @@
 -- The first cell of each row, read along the places: those that no place before has the row of.
-use Rattle.std.proofs.Common.{◌≡◌, ℕ, Bool, true, false, cond, not, ◌&&◌, List, [], ◌∷◌, ◌++◌, Option, Some, None, refl, sym, ap, ◌∙◌, subst, append_assoc}
+use Rattle.std.proofs.Common.{◌≡◌, ℕ, Bool, true, false, cond, not, List, [], ◌∷◌, ◌++◌, Option, Some, None, refl, sym, ap, ◌∙◌, subst, append_assoc}
 use Rattle.std.specs.Option.{option_map}
 use Rattle.std.specs.List.{filter}
 use Rattle.std.proofs.lemmas.List.Elements.{filter-append}
@@ -9,12 +9,10 @@ use Rattle.elem.specs.Elements.{same}
 use Rattle.elem.specs.ElementLaws.{same_equiv}
 use Rattle.elem.specs.Rows.{first_key, last_key_or, key_after, key_before}
 use Rattle.elem.proofs.RowsLemmas.{key_after_at, key_before_at}
-use Rattle.linked_base.specs.Thread.{head_or, last_or}
 use Rattle.linked_base.specs.Group.{has, of_key}
 use Rattle.linked_base.specs.Places.{rows_of}
 use Rattle.linked_base.proofs.HeadLemmas.{is_empty, is_unseen, filter_both, filter_all, unseen_more}
-use Rattle.linked_base.proofs.PlacesLemmas.{There, some_of, there_left, there_right, rows-append, rows-cons}
-use Rattle.linked_base.proofs.IdLemmas.{there_filter}
+use Rattle.linked_base.proofs.PlacesLemmas.{There, some_of, there_left, rows-append, rows-cons}
 use Rattle.table_base.specs.Cells.{Cell, first_of_rows}
 
 -- the test tells of each place whether no place before it has its key

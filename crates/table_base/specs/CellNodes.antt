@@ -1,7 +1,7 @@
 -- What nodes of cells mean: a thread goes through all, one through each row and one through each column, in the same
 -- order, and an index finds the place of each cell.
 use Rattle.std.specs.Prelude.{◌≡◌, ℕ, cond, Bool, false, List, [], ◌∷◌, ◌++◌, length, Option, Some, None}
-use Rattle.std.specs.Option.{option_map, is_none}
+use Rattle.std.specs.Option.{option_map}
 use Rattle.slab.specs.Slab.{Slab, get, slab_len}
 use Rattle.elem.specs.declared.elements.Elem.{Elem}
 use Rattle.elem.specs.Elements.{same}
@@ -9,7 +9,7 @@ use Rattle.linked_base.specs.declared.links.Links.{Links}
 use Rattle.linked_base.specs.declared.links.Ends.{Ends}
 use Rattle.linked_base.specs.declared.group.Group.{Group}
 use Rattle.linked_base.specs.Thread.{head_or, walk, IsThread, links_at}
-use Rattle.linked_base.specs.Group.{some_used, has, of_key, AreGrouped}
+use Rattle.linked_base.specs.Group.{some_used, of_key, AreGrouped}
 use Rattle.linked_base.specs.Places.{rows_of, IsIndexed}
 use Rattle.table_base.specs.declared.cell_nodes.CellNode.{CellNode}
 use Rattle.table_base.specs.declared.sides.Side.{Side}

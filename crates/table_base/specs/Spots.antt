@@ -1,7 +1,7 @@
 -- Spots: a row and a column. When two are the same, and what one feeds a hasher.
 use Rattle.std.specs.Prelude.{◌≡◌, ℕ, Bool, true, false, ◌&&◌, List, ◌++◌, refl}
 use Rattle.std.specs.Prelude.{IsTrue}
-use Rattle.std.proofs.Common.{sym, ap, ◌∙◌}
+use Rattle.std.proofs.Common.{ap}
 use Rattle.std.specs.Bool.{Decides}
 use Rattle.std.specs.Cmp.{IsEquivalence, decided}
 use Rattle.elem.specs.declared.elements.Elem.{Elem}

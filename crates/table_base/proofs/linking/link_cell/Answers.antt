@@ -1,10 +1,10 @@
-use Rattle.std.proofs.Common.{◌≡◌, ◌+◌, ◌++◌, ◌∷◌, Some, None, sym, ap, ◌∙◌, subst}
+use Rattle.std.proofs.Common.{◌≡◌, ◌+◌, Some, None, sym, ap, ◌∙◌, subst}
 use Rattle.std.specs.Option.{option_map}
 use Rattle.linked_base.specs.Thread.{head_or}
 use Rattle.slab.specs.Slab.{Updates, slab_len}
 use Rattle.linked_base.specs.Group.{of_key}
 use Rattle.linked_base.proofs.GroupLemmas.{key_beside}
-use Rattle.table_base.specs.CellNodes.{key_at, cell, cell_at}
+use Rattle.table_base.specs.CellNodes.{key_at, cell}
 use Rattle.table_base.specs.declared.sides.Side.TheVariants.{Row, Column}
 use Rattle.table_base.proofs.CellSteps.{put_beside, thread₁, row_group₂, column_group₃, put_cells, cell_kept}
 use Rattle.table_base.proofs.linking.link_cell.Goals as goal

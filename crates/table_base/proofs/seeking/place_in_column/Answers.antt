@@ -1,7 +1,4 @@
-use Rattle.std.proofs.Common.{◌∙◌, sym, ap, None}
-use Rattle.linked_base.specs.declared.links.Links.{Links}
-use Rattle.linked_base.specs.Thread.{head_or}
-use Rattle.table_base.specs.CellNodes.{all_links}
+use Rattle.std.proofs.Common.{◌∙◌, sym}
 use Rattle.table_base.proofs.ColumnPlaces.{none_ahead, neighbour_behind, node_ahead}
 use Rattle.table_base.proofs.seeking.place_in_column.Goals as goal
 

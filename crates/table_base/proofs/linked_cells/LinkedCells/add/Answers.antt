@@ -1,6 +1,5 @@
-use Rattle.std.proofs.Common.{◌∙◌, sym, ap, refl, arith}
+use Rattle.std.proofs.Common.{◌∙◌, ap, refl, arith}
 use Rattle.std.specs.HashMap as hash
-use Rattle.elem.specs.Elements.{same}
 use Rattle.linked_base.specs.declared.group.Group.{Group}
 use Rattle.table_base.specs.declared.sides.Side.TheVariants.{Row, Column}
 use Rattle.table_base.specs.Spots.{same_spot}

@@ -1,4 +1,4 @@
-use Rattle.std.proofs.Common.{◌∙◌, sym, ap, length, subst}
+use Rattle.std.proofs.Common.{◌∙◌, ap}
 use Rattle.table_base.specs.declared.sides.Side.TheVariants.{Row}
 use Rattle.table_base.specs.Cells.{Table}
 use Rattle.table_base.proofs.HeldCells.{held, was_grouped, len_held, distinct_held}

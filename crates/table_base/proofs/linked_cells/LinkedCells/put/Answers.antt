@@ -1,4 +1,4 @@
-use Rattle.std.proofs.Common.{◌∙◌, sym, ap, refl}
+use Rattle.std.proofs.Common.{◌∙◌, sym, ap}
 use Rattle.table_base.specs.declared.sides.Side.TheVariants.{Row}
 use Rattle.table_base.specs.Cells.{Table, value_in, put_at}
 use Rattle.table_base.proofs.HeldCells.{held, is_table, was_grouped, shows, absent_held, node_held, value_held}
