@@ -1,9 +1,11 @@
 pub mod ThreadLemmas
 pub mod NthLemmas
 pub mod PlacesLemmas
+pub mod Walks
 pub mod IdLemmas
 pub mod KeyedLemmas
 pub mod GroupLemmas
+pub mod HeadLemmas
 pub mod LinkedMapLemmas
 pub mod LinkedMapSteps
 pub mod HeldRows

@@ -19,7 +19,7 @@ use Rattle.linked_base.proofs.IdLemmas.{there_filter}
 use Rattle.mm_base.specs.declared.pair_nodes.PairNode.{PairNode}
 use Rattle.mm_base.specs.PairNodes.{all_links, key_at, core_at, key_of, is_head, ArePairs}
 use Rattle.mm_base.specs.PairRows.{Row, id_of, first_pairs}
-use Rattle.mm_base.proofs.Walks.{WalkedOn, on_split, on_cut, WalkedBack, back_split, back_cut}
+use Rattle.linked_base.proofs.Walks.{WalkedOn, on_split, on_cut, WalkedBack, back_split, back_cut}
 use Rattle.mm_base.proofs.PairsReads.{there, own_key}
 use Rattle.mm_base.proofs.KeyOrder.{pairs_in, heads_are, first_of, last_of, key_after_first, key_before_first}
 use Rattle.mm_base.proofs.HeldPairs.{HoldsPairs, nth_held}

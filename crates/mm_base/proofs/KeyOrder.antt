@@ -20,6 +20,7 @@ use Rattle.linked_base.specs.Places.{id_rows}
 use Rattle.linked_base.proofs.ThreadLemmas.{thread_cut_at, links_read}
 use Rattle.linked_base.proofs.GroupLemmas.{group_cut}
 use Rattle.linked_base.proofs.PlacesLemmas.{There, some_of, there_left, there_right}
+use Rattle.linked_base.proofs.HeadLemmas.{is_empty, none_iff_empty, is_unseen, filter_both, filter_all, unseen_more}
 use Rattle.linked_base.proofs.IdLemmas.{ids-cons, ids-append, there_filter}
 use Rattle.mm_base.specs.declared.pair_nodes.PairNode.{PairNode}
 use Rattle.mm_base.specs.PairNodes.{key_links, key, key_at, core_at, key_of, starts_key, is_head, ArePairs}
@@ -29,29 +30,6 @@ use Rattle.mm_base.proofs.PairsReads.{there, own_key}
 -- keys and values of rows
 abbrev pub pairs_in : List Row → List (Elem × Elem)
 pairs_in rows = map (λ (r : Row). r.1) rows
-
-abbrev pub is_empty : List ℕ → Bool
-is_empty [] = true
-is_empty (p ∷ ps) = false
-
--- what the test of an option tells
-pub none_is : (o : Option ℕ) (b : Bool) → is_some o ≡ not b → is_none o ≡ b
-none_is None true e = refl
-none_is None false e = sym e
-none_is (Some p) true e = sym e
-none_is (Some p) false e = refl
-
-last_is_none : (q : ℕ) (us : List ℕ) → is_none (last_or (Some q) us) ≡ false
-last_is_none q [] = refl
-last_is_none q (r ∷ us) = last_is_none r us
-
-none_iff_empty : (us : List ℕ) → is_none (last_or None us) ≡ is_empty us
-none_iff_empty [] = refl
-none_iff_empty (q ∷ us) = last_is_none q us
-
--- no place of us has the key
-abbrev pub is_unseen : (ℕ → Option Elem) → List ℕ → Elem → Bool
-is_unseen key us k = is_empty (of_key key k us)
 
 module _ (nodes : Slab PairNode) (all : Ends) (find : Elem → Option Group) where
   -- a place is the first of its key where no place before it has the key
@@ -67,35 +45,7 @@ module _ (nodes : Slab PairNode) (all : Ends) (find : Elem → Option Group) whe
       by_node None g = let both = sym here ∙ ap (option_map key) g in absurd (cc)
       by_node (Some n) g = ap is_none (whole n g) ∙ none_iff_empty (of_key (key_at nodes) k us)
 
--- tests of lists
-pub filter_both : {X : Type 0} (f g h : X → Bool) → ((x : X) → h x ≡ (f x && g x)) → (xs : List X) → filter h xs ≡ filter f (filter g xs)
-filter_both f g h e [] = refl
-filter_both f g h e (x ∷ xs) = ap (λ b. cond b (x ∷ filter h xs) (filter h xs)) (e x) ∙ by_case (g x) (f x) refl (filter_both f g h e xs)
-  where
-    by_case : (b c : Bool) → f x ≡ c → filter h xs ≡ filter f (filter g xs) → cond (c && b) (x ∷ filter h xs) (filter h xs) ≡ filter f (cond b (x ∷ filter g xs) (filter g xs))
-    by_case true true t r = ap (λ l. x ∷ l) r ∙ sym (ap (λ d. cond d (x ∷ filter f (filter g xs)) (filter f (filter g xs))) t)
-    by_case true false t r = r ∙ sym (ap (λ d. cond d (x ∷ filter f (filter g xs)) (filter f (filter g xs))) t)
-    by_case false true t r = r
-    by_case false false t r = r
-
-filter_all : {X : Type 0} (f : X → Bool) → ((x : X) → f x ≡ true) → (xs : List X) → filter f xs ≡ xs
-filter_all f e [] = refl
-filter_all f e (x ∷ xs) = ap (λ b. cond b (x ∷ filter f xs) (filter f xs)) (e x) ∙ ap (λ l. x ∷ l) (filter_all f e xs)
-
-empty_append : (us vs : List ℕ) → is_empty (us ++ vs) ≡ (is_empty us && is_empty vs)
-empty_append [] vs = refl
-empty_append (u ∷ us) vs = refl
-
 module _ (nodes : Slab PairNode) (all : Ends) (find : Elem → Option Group) where
-  unseen_more : (us : List ℕ) (p : ℕ) (k x : Elem) → key_at nodes p ≡ Some k → is_unseen (key_at nodes) (us ++ p ∷ []) x ≡ (is_unseen (key_at nodes) us x && not (same k x))
-  unseen_more us p k x here =
-      ap is_empty (filter-append (λ q. has x (key_at nodes q)) us (p ∷ []) ∙ ap (λ o. of_key (key_at nodes) x us ++ cond (has x o) (p ∷ []) []) here)
-      ∙ empty_append (of_key (key_at nodes) x us) (cond (same x k) (p ∷ []) []) ∙ ap (λ b. is_empty (of_key (key_at nodes) x us) && b) (by_case (same x k) ∙ ap not (same_equiv.symm x k))
-    where
-      by_case : (b : Bool) → is_empty (cond b (p ∷ []) []) ≡ not b
-      by_case true = refl
-      by_case false = refl
-
   -- heads of a back part are the first pairs there of keys that are not in the front part
   pub heads_back : (us vs : List ℕ) → ArePairs nodes all find (us ++ vs) → There (core_at nodes) vs
       → pairs_in (id_rows (core_at nodes) (filter (is_head nodes) vs)) ≡ filter (λ (c : Elem × Elem). is_unseen (key_at nodes) us c.0) (first_pairs (id_rows (core_at nodes) vs))
@@ -107,7 +57,7 @@ module _ (nodes : Slab PairNode) (all : Ends) (find : Elem → Option Group) whe
       let moved = subst (ArePairs nodes all find) (sym (append_assoc us (p ∷ []) vs)) h in
       let rest = heads_back (us ++ p ∷ []) vs moved t.1 in
       let firsts = first_pairs (id_rows (core_at nodes) vs) in
-      let both = filter_both (λ (d : Elem × Elem). is_unseen (key_at nodes) us d.0) (λ (d : Elem × Elem). not (same k d.0)) (λ (d : Elem × Elem). is_unseen (key_at nodes) (us ++ p ∷ []) d.0) (λ d. unseen_more us p k d.0 here) firsts in
+      let both = filter_both (λ (d : Elem × Elem). is_unseen (key_at nodes) us d.0) (λ (d : Elem × Elem). not (same k d.0)) (λ (d : Elem × Elem). is_unseen (key_at nodes) (us ++ p ∷ []) d.0) (λ d. unseen_more (key_at nodes) us p k d.0 here) firsts in
       step c.0 c.1 (is_unseen (key_at nodes) us k) (head_is nodes all find us p vs k h here) refl (rest ∙ both)
       ∙ sym (ap (λ rs. filter (λ (d : Elem × Elem). is_unseen (key_at nodes) us d.0) (first_pairs rs)) (ids-cons (core_at nodes) p vs c.0 c.1))
     where

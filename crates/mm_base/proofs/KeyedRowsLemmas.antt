@@ -16,7 +16,7 @@ use Rattle.mm_base.specs.PairRows.{Row, HasDistinctIds, pair_of, pairs_of_key, w
 use Rattle.mm_base.specs.KeyedRows.{as_rows, contains, has_key, AreKeysOf, HasDistinctPairs, with_key, keys_with_rows}
 use Rattle.std.proofs.lemmas.Bool.Decides.{Decides-eqb}
 use Rattle.mm_base.specs.LinkedPairs.{AreLinked}
-use Rattle.mm_base.proofs.KeyOrder.{filter_both}
+use Rattle.linked_base.proofs.HeadLemmas.{filter_both}
 use Rattle.mm_base.proofs.PairRowsLemmas.{its_row, its_cut, its_front, passes}
 
 -- the keys of entries

@@ -1,5 +1,4 @@
 pub mod PairRowsLemmas
-pub mod Walks
 pub mod PairsSteps
 pub mod PairsReads
 pub mod KeyOrder

@@ -1,7 +1,7 @@
 use Rattle.std.proofs.Common.{◌≤◌, length, sym, ap, ◌∙◌, arith, length-append}
 use Rattle.mm_base.specs.PairNodes.{is_head, starts_key}
-use Rattle.mm_base.proofs.Walks.{on_start, on_next, on_here, on_none, on_end}
-use Rattle.mm_base.proofs.KeyOrder.{none_is}
+use Rattle.linked_base.proofs.Walks.{on_start, on_next, on_here, on_none, on_end}
+use Rattle.linked_base.proofs.HeadLemmas.{none_is}
 use Rattle.mm_base.proofs.HeldKeys.{next_on, there_on}
 use Rattle.mm_base.proofs.heads.next_head.Goals as goal
 

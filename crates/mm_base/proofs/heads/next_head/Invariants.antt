@@ -4,7 +4,7 @@ use Rattle.linked_base.specs.declared.links.Ends.{Ends}
 use Rattle.linked_base.specs.declared.group.Group.{Group}
 use Rattle.linked_base.specs.Thread.{head_or}
 use Rattle.mm_base.specs.PairNodes.{is_head, ArePairs}
-use Rattle.mm_base.proofs.Walks.{WalkedOn}
+use Rattle.linked_base.proofs.Walks.{WalkedOn}
 use Rattle.mm_base.proofs.heads.next_head.Given as goal
 
 abbrev pub invariant-loop-step : goal.invariant-loop-step

@@ -1,7 +1,7 @@
 use Rattle.std.proofs.Common.{◌≤◌, length, sym, ap, ◌∙◌, arith, length-append}
 use Rattle.mm_base.specs.PairNodes.{is_head, starts_key}
-use Rattle.mm_base.proofs.Walks.{back_start, back_next, back_here, back_none, back_end}
-use Rattle.mm_base.proofs.KeyOrder.{none_is}
+use Rattle.linked_base.proofs.Walks.{back_start, back_next, back_here, back_none, back_end}
+use Rattle.linked_base.proofs.HeadLemmas.{none_is}
 use Rattle.mm_base.proofs.HeldKeys.{previous_back, there_back}
 use Rattle.mm_base.proofs.heads.previous_head.Goals as goal
 

@@ -4,7 +4,7 @@ use Rattle.linked_base.specs.declared.links.Ends.{Ends}
 use Rattle.linked_base.specs.declared.group.Group.{Group}
 use Rattle.linked_base.specs.Thread.{last_or}
 use Rattle.mm_base.specs.PairNodes.{is_head, ArePairs}
-use Rattle.mm_base.proofs.Walks.{WalkedBack}
+use Rattle.linked_base.proofs.Walks.{WalkedBack}
 use Rattle.mm_base.proofs.heads.previous_head.Given as goal
 
 abbrev pub invariant-loop-step : goal.invariant-loop-step

@@ -9,7 +9,7 @@ split_head : (vs : List ℕ) (p : ℕ) → head_or None vs ≡ Some p → (ws : 
 split_head [] p e = absurd (cc)
 split_head (q ∷ vs) p e = let equal : q ≡ p = cc in (vs, ap (λ x. x ∷ vs) equal)
 
-no_head : (vs : List ℕ) → head_or None vs ≡ None → vs ≡ []
+pub no_head : (vs : List ℕ) → head_or None vs ≡ None → vs ≡ []
 no_head [] e = refl
 no_head (q ∷ vs) e = absurd (cc)
 
@@ -17,7 +17,7 @@ split_last_of : (q : ℕ) (us : List ℕ) (p : ℕ) → last_or (Some q) us ≡ 
 split_last_of q [] p e = let equal : q ≡ p = cc in ([], ap (λ x. x ∷ []) equal)
 split_last_of q (r ∷ us) p e = let rest = split_last_of r us p e in (q ∷ rest.0, ap (λ l. q ∷ l) rest.1)
 
-split_last : (us : List ℕ) (p : ℕ) → last_or None us ≡ Some p → (ws : List ℕ) × (us ≡ ws ++ p ∷ [])
+pub split_last : (us : List ℕ) (p : ℕ) → last_or None us ≡ Some p → (ws : List ℕ) × (us ≡ ws ++ p ∷ [])
 split_last [] p e = absurd (cc)
 split_last (q ∷ us) p e = split_last_of q us p e
 
@@ -25,7 +25,7 @@ last_there : (q : ℕ) (us : List ℕ) → last_or (Some q) us ≡ None → us �
 last_there q [] e = refl
 last_there q (r ∷ us) e = absurd (let f = last_there r us e in let g : last_or (Some r) [] ≡ None = ap (last_or (Some r)) (sym f) ∙ e in cc)
 
-no_last : (us : List ℕ) → last_or None us ≡ None → us ≡ []
+pub no_last : (us : List ℕ) → last_or None us ≡ None → us ≡ []
 no_last [] e = refl
 no_last (q ∷ us) e = absurd (let f = last_there q us e in let g : last_or (Some q) [] ≡ None = ap (last_or (Some q)) (sym f) ∙ e in cc)
 

@@ -1,0 +1,15 @@
+pub mod Results
+pub mod CellLists
+pub mod RemovedCells
+pub mod GroupedCells
+pub mod GroupedOrder
+pub mod CellSteps
+pub mod RowPlaces
+pub mod FoundLemmas
+pub mod ThreadReads
+pub mod SideReads
+pub mod ColumnPlaces
+pub mod HeldCells
+pub mod HeldSteps
+pub mod RowOrder
+pub mod HeldOrder

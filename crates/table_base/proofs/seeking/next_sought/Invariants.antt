@@ -1,0 +1,12 @@
+use Rattle.std.proofs.Common.{◌≡◌, ℕ, ◌≤◌, List, ◌++◌, length, None}
+use Rattle.slab.specs.Slab.{slab_len}
+use Rattle.linked_base.specs.declared.links.Ends.{Ends}
+use Rattle.linked_base.specs.Thread.{head_or, IsThread, links_at}
+use Rattle.linked_base.proofs.Walks.{WalkedOn}
+use Rattle.table_base.specs.CellNodes.{all_links}
+use Rattle.table_base.specs.Seeking.{passes_at}
+use Rattle.table_base.proofs.seeking.next_sought.Given as goal
+
+abbrev pub invariant-loop-step : goal.invariant-loop-step
+invariant-loop-step l =
+    (us vs : List ℕ) (all : Ends) → l.fn.from ≡ head_or None vs → IsThread (links_at all_links l.nodes) all (us ++ vs) → length vs ≤ slab_len l.nodes → WalkedOn (passes_at l.sought l.nodes) vs l.at l._step

@@ -1,0 +1,4 @@
+pub mod Cells
+pub mod Spots
+pub mod CellNodes
+pub mod Seeking
