@@ -3,7 +3,8 @@ use Rattle.std.specs.Prelude.{ℕ, List, Option, nat_eq}
 use Rattle.std.specs.Map.{lookup}
 use Rattle.std.specs.Cmp.Lexicographic.{pointwise}
 
--- what standard input and each file has, what `read` has still to give, and what was counted
+-- what standard input and each file has, what `read` has still to give, what was counted, and which opens and reads
+-- are to fail, counted from 1; no read gives more than most bytes
 pub record Supply : Type 0 where
   pub standard : List ℕ
   pub files : List (List ℕ × List ℕ)
@@ -12,6 +13,11 @@ pub record Supply : Type 0 where
   pub open_faults : ℕ
   pub read_faults : ℕ
   pub failed_path : Option (List ℕ)
+  pub opens : ℕ
+  pub reads : ℕ
+  pub failing_opens : List ℕ
+  pub failing_reads : List ℕ
+  pub most : ℕ
 
 -- the bytes of the first file of a name
 abbrev pub bytes_named : List (List ℕ × List ℕ) → List ℕ → Option (List ℕ)

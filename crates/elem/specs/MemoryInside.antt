@@ -14,6 +14,11 @@ supply m = record {
   open_faults = m.open_faults;
   read_faults = m.read_faults;
   failed_path = option_map (λ path. path.items) m.failed_path;
+  opens = m.opens;
+  reads = m.reads;
+  failing_opens = m.failing_opens.items;
+  failing_reads = m.failing_reads.items;
+  most = m.most;
 }
 
 pub record IsReady (m : Inside) : Type 0 where

@@ -15,6 +15,13 @@ pub struct Lexeme {
 }
 
 impl Default for Lexeme {
+    ghost use Rattle.std.specs.Prelude.{◌≡◌};
+    ghost use Rattle.elem.specs.declared.tokens.Sign.TheVariants.{Comma};
+    ghost use Rattle.elem.specs.declared.tokens.Token.TheVariants.{Sign as sign_token};
+
+    ghost is_default = { λ x. x ≡ record { token = sign_token Comma; start = 0; end = 0 } };
+
+    /// A comma that takes no bytes, at the front of a text.
     fn default() -> Self {
         Lexeme {
             token: Token::Sign(Sign::Comma),

@@ -1,5 +1,5 @@
 //! The outside in memory: inputs and a sink for tests, which fail when they are told to.
-ghost use Rattle.std.specs.Prelude.{◌≡◌, ◌+◌, ◌++◌, ◌∷◌, ◌<◌, ◌≤◌, ◌^◌, [], length, drop, map, nat_eq, position, Some, OnOk, IfOk};
+ghost use Rattle.std.specs.Prelude.{◌≡◌, ◌+◌, ◌++◌, ◌∷◌, ◌<◌, ◌≤◌, ◌^◌, [], length, drop, map, nat_eq, position, Some, OnOk, OnErr, IfOk};
 ghost use Rattle.std.specs.Cmp.Lexicographic.{pointwise};
 ghost use Rattle.elem.specs.Memory.{bytes_named};
 ghost use Rattle.elem.specs.MemoryFiles.{IsSource, source_bytes, named};
@@ -87,8 +87,8 @@ impl MemInputs {
 
     /// Adds a file. Of two files with one name the first is read.
     pub fn file(&mut self, path: &str, bytes: &[u8]) -> Result<(), NoMemory>
-        ensures ok { OnOk result (self.new.files ≡ self.old.files ++ (path.now, bytes.now) ∷ []) }
-        ensures standard { self.new.standard ≡ self.old.standard }
+        ensures ok { OnOk result (self.new ≡ record self.old { files = self.old.files ++ (path.now, bytes.now) ∷ [] }) }
+        ensures err { OnErr result (self.new ≡ self.old) }
     {
         let (Ok(name), Ok(bytes)) = (
             Vec::from_slice(self.alloc, path.as_bytes()),
@@ -104,7 +104,8 @@ impl MemInputs {
 
     /// Has the n-th open fail, counted from 1.
     pub fn fail_open(&mut self, n: u64) -> Result<(), NoMemory>
-        ensures { self.new ≡ self.old }
+        ensures ok { OnOk result (self.new ≡ record self.old { failing_opens = self.old.failing_opens ++ n ∷ [] }) }
+        ensures err { OnErr result (self.new ≡ self.old) }
     {
         match self.failing_opens.push(n) {
             Ok(()) => Ok(()),
@@ -114,7 +115,8 @@ impl MemInputs {
 
     /// Has the n-th read fail, counted from 1.
     pub fn fail_read(&mut self, n: u64) -> Result<(), NoMemory>
-        ensures { self.new ≡ self.old }
+        ensures ok { OnOk result (self.new ≡ record self.old { failing_reads = self.old.failing_reads ++ n ∷ [] }) }
+        ensures err { OnErr result (self.new ≡ self.old) }
     {
         match self.failing_reads.push(n) {
             Ok(()) => Ok(()),
@@ -125,7 +127,7 @@ impl MemInputs {
     /// Has no read give more than n bytes.
     pub fn most(&mut self, n: usize)
         requires { 0 < n }
-        ensures { self.new ≡ self.old }
+        ensures { self.new ≡ record self.old { most = n } }
     {
         self.most = n;
     }

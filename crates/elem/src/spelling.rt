@@ -1,5 +1,5 @@
 //! Reading and writing the one spelling of an element.
-ghost use Rattle.std.specs.Prelude.{FitsSigned, ◌≡◌, ◌≢◌, ◌≤◌, ℤ, length, IfSome, IfNone};
+ghost use Rattle.std.specs.Prelude.{FitsSigned, ◌≡◌, ◌≢◌, ◌≤◌, ℤ, length, IfSome, IfNone, Some};
 ghost use Rattle.std.specs.Fmt.{signed_decimal};
 ghost use Rattle.std.specs.Int.{w64};
 ghost use Rattle.elem.specs.Elements.{IsElem};
@@ -15,6 +15,15 @@ use std::str;
 ///
 /// A number has no leading zero and is not `-0`; everything else that is no word spells nothing.
 pub fn read_elem(text: &[u8]) -> Option<Elem>
+    ensures exact { result ≡ elem_of text.now }
+    ensures found { IfSome result (λ e. IsElem e × (text.now ≡ spelling e)) }
+    ensures none { IfNone result ((e : Element) → IsElem e → text.now ≢ spelling e) }
+    ensures only { (e : Element) → IsElem e → text.now ≡ spelling e → result ≡ Some e }
+{
+    spelled_elem(text)
+}
+
+fn spelled_elem(text: &[u8]) -> Option<Elem>
     ensures exact { result ≡ elem_of text.now }
     ensures found { IfSome result (λ e. IsElem e × (text.now ≡ spelling e)) }
     ensures none { IfNone result ((e : Element) → IsElem e → text.now ≢ spelling e) }

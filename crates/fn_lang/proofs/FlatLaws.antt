@@ -1,12 +1,19 @@
 -- An array that is filled from a list of parts.
-use Rattle.std.proofs.Common.{◌≡◌, ℕ, ◌-◌, ◌≤◌, false, List, [], ◌∷◌, ◌++◌, length, take, drop, Some, refl, sym, ◌∙◌, arith, length-append}
-use Rattle.std.specs.Prelude.{replicate}
+use Rattle.std.proofs.Common.{◌≡◌, ℕ, ◌-◌, ◌<◌, ◌≤◌, true, false, List, [], ◌∷◌, ◌++◌, length, take, drop, Option, Some, None, Ok, Err, refl, sym, ◌∙◌, arith, length-append}
+use Rattle.std.specs.Prelude.{replicate, nat_lt}
+use Rattle.std.proofs.lemmas.Bool.Decides.{nat_tests}
 use Rattle.std.proofs.lemmas.List.{drop-replicate, take_at, take_all, length-replicate}
 use Rattle.elem.specs.Lexing.{lexed}
-use Rattle.fn_lang.specs.declared.steps.Sort.{Sort}
+use Rattle.fn_lang.specs.declared.names.Sort.{Sort}
 use Rattle.fn_lang.specs.declared.steps.Want.TheVariants as wants
-use Rattle.fn_lang.specs.Reading.{parse_all, is_padded, parts_of}
-use Rattle.fn_lang.proofs.SortLaws.{sort_as, parsed_is}
+use Rattle.elem.specs.Lexing.{kinds_of}
+use Rattle.elem.specs.declared.lexing.Lexeme.{Lexeme}
+use Rattle.elem.specs.declared.tokens.Token.{Token}
+use Rattle.fn_lang.specs.declared.faults.FnFault.TheVariants.{NotGrammar, TooLarge}
+use Rattle.fn_lang.specs.declared.names.Sort.TheVariants as sorts
+use Rattle.fn_lang.specs.Grammar.{is_padded}
+use Rattle.fn_lang.specs.Reading.{parse_all, parts_of, reading}
+use Rattle.fn_lang.proofs.FoundLaws.{Reads, some_parts, parsed_reads}
 use Rattle.fn_lang.specs.declared.parts.Part.{Part}
 use Rattle.fn_lang.specs.declared.values.Flat.{Flat}
 use Rattle.fn_lang.specs.Flat.{blank, flat_of, IsFlat, IsSort}
@@ -29,9 +36,39 @@ flat_made stands f ps e short is =
 short_parts : (xs ps : List Part) → xs ≡ take 64 ps → length ps ≤ 64 → xs ≡ ps
 short_parts xs ps e h = e ∙ take_all 64 ps h
 
-pub reading_found : (s : Sort) (text : List ℕ) (xs ps : List Part) → false ≡ is_padded text → parse_all false (wants.Tree s ∷ []) (lexed text) ≡ Some ps → xs ≡ take 64 ps → length ps ≤ 64 → parts_of s text ≡ Some xs
+few : (n : ℕ) → n ≤ 64 → nat_lt 64 n ≡ false
+few n h = grind (arith, nat_tests)
+
+many : (n : ℕ) → 64 < n → nat_lt 64 n ≡ true
+many n h = grind (arith, nat_tests)
+
+pub padded_none : (s : Sort) (text : List ℕ) → true ≡ is_padded text → reading s text ≡ Err NotGrammar
 unfolding parts_of
-reading_found s text xs ps p e k h = rw (sym p, e, short_parts xs ps k h) refl
+padded_none s text p = rw (sym p) refl
+
+pub unparsed_none : (s : Sort) (text : List ℕ) → false ≡ is_padded text → parse_all false (wants.Tree s ∷ []) (lexed text) ≡ None → reading s text ≡ Err NotGrammar
+unfolding parts_of
+unparsed_none s text p e = rw (sym p, e) refl
+
+pub reading_found : (s : Sort) (text : List ℕ) (xs ps : List Part) → false ≡ is_padded text → parse_all false (wants.Tree s ∷ []) (lexed text) ≡ Some ps → xs ≡ take 64 ps → length ps ≤ 64 → reading s text ≡ Ok xs
+unfolding parts_of
+reading_found s text xs ps p e k h = rw (sym p, e, short_parts xs ps k h, few (length ps) h) refl
+
+pub reading_large : (s : Sort) (text : List ℕ) (ps : List Part) → false ≡ is_padded text → parse_all false (wants.Tree s ∷ []) (lexed text) ≡ Some ps → 64 < length ps → reading s text ≡ Err TooLarge
+unfolding parts_of
+reading_large s text ps p e h = rw (sym p, e, many (length ps) h) refl
+
+is_sort : (s : Sort) (ps : List Part) (ts : List Token) → Reads s ps ts → IsSort s ps
+is_sort sorts.Pred ps ts (p, e, h) = (p, e)
+is_sort sorts.PairPred ps ts (p, e, h) = (p, e)
+is_sort sorts.Func ps ts (p, e, h) = (p, e)
+
+sort_as : (s : Sort) (ps qs : List Part) → ps ≡ qs → IsSort s qs → IsSort s ps
+sort_as s ps qs e h = rw e h
+
+parsed_is : (s : Sort) (o : Option (List Lexeme)) (ps : List Part) → parse_all false (wants.Tree s ∷ []) o ≡ some_parts ps → IsSort s ps
+parsed_is s None ps h = absurd cc
+parsed_is s (Some xs) ps h = is_sort s ps (kinds_of xs) (parsed_reads s (kinds_of xs) ps h)
 
 pub reading_sort : (s : Sort) (text : List ℕ) (xs ps : List Part) → parse_all false (wants.Tree s ∷ []) (lexed text) ≡ Some ps → xs ≡ take 64 ps → length ps ≤ 64 → IsSort s xs
 reading_sort s text xs ps e k h = sort_as s xs ps (short_parts xs ps k h) (parsed_is s (lexed text) ps e)

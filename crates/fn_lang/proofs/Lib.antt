@@ -1,5 +1,8 @@
 pub mod TreeLaws
 pub mod LeafLaws
 pub mod StackLaws
-pub mod SortLaws
+pub mod PartLaws
+pub mod FoundLaws
+pub mod AgainLaws
+pub mod ReadingLaws
 pub mod FlatLaws

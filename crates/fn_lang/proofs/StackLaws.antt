@@ -12,7 +12,7 @@ use Rattle.fn_lang.specs.declared.parts.Part.{Part}
 use Rattle.fn_lang.specs.declared.steps.Want.{Want}
 use Rattle.fn_lang.specs.declared.steps.Want.TheVariants as wants
 use Rattle.fn_lang.specs.declared.steps.Step.{Step}
-use Rattle.fn_lang.specs.declared.steps.Sort.{Sort}
+use Rattle.fn_lang.specs.declared.names.Sort.{Sort}
 use Rattle.fn_lang.specs.Reading.{step_of, stepped, wanted, nothing_wanted, parse, parse_all, is_open}
 
 -- the wants with the next one last, as the stack holds them

@@ -5,8 +5,8 @@ use Rattle.std.proofs.lemmas.List.{length-take}
 use Rattle.fn_lang.specs.declared.leaves.Test.TheVariants as tests
 use Rattle.fn_lang.specs.declared.parts.Part.{Part}
 use Rattle.fn_lang.specs.declared.parts.Part.TheVariants as parts
-use Rattle.fn_lang.specs.declared.steps.Sort.{Sort}
-use Rattle.fn_lang.specs.declared.steps.Sort.TheVariants as sorts
+use Rattle.fn_lang.specs.declared.names.Sort.{Sort}
+use Rattle.fn_lang.specs.declared.names.Sort.TheVariants as sorts
 use Rattle.fn_lang.specs.declared.values.Flat.{Flat}
 use Rattle.fn_lang.specs.declared.values.Pred.TheInside as pred
 use Rattle.fn_lang.specs.declared.values.PairPred.TheInside as pair

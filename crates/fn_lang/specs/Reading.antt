@@ -1,29 +1,30 @@
 -- The reading of predicates and functions, by recursion on the tokens, with what is still wanted.
-use Rattle.std.specs.Prelude.{◌≡◌, ℕ, Bool, true, false, if◌then◌else◌, List, [], ◌∷◌, ◌++◌, length, nat_eq, codes, Option, Some, None, Result, Ok, Err, ◌<◌, option_to_list, ◌&&◌, ◌||◌, ◌==◌, ◌-◌, nat_lt, slice_index}
+use Rattle.std.specs.Prelude.{ℕ, Bool, true, false, if◌then◌else◌, List, [], ◌∷◌, ◌++◌, length, nat_eq, codes, Option, Some, None, Result, Ok, Err, option_to_list, ◌&&◌, nat_lt}
 use Rattle.std.specs.Option.{option_map}
 use Rattle.std.specs.Cmp.Lexicographic.{pointwise}
 use Rattle.elem.specs.declared.tokens.Sign.TheVariants as signs
 use Rattle.elem.specs.declared.tokens.Token.{Token}
 use Rattle.elem.specs.declared.tokens.Token.TheVariants as tokens
 use Rattle.elem.specs.declared.lexing.Lexeme.{Lexeme}
-use Rattle.elem.specs.Lexing.{lexed}
+use Rattle.elem.specs.Lexing.{lexed, kinds_of}
 use Rattle.elem.specs.SpanTexts.{element_of}
 use Rattle.fn_lang.specs.declared.leaves.Test.TheVariants as tests
 use Rattle.fn_lang.specs.declared.leaves.Map.TheVariants as maps
 use Rattle.fn_lang.specs.declared.parts.Part.{Part}
 use Rattle.fn_lang.specs.declared.parts.Part.TheVariants as parts
-use Rattle.fn_lang.specs.declared.steps.Sort.{Sort}
-use Rattle.fn_lang.specs.declared.steps.Sort.TheVariants as sorts
-use Rattle.fn_lang.specs.declared.steps.Given.{Given}
-use Rattle.fn_lang.specs.declared.steps.Given.TheVariants as given
-use Rattle.fn_lang.specs.declared.steps.Inner.{Inner}
-use Rattle.fn_lang.specs.declared.steps.Inner.TheVariants.{One, Two, Three}
+use Rattle.fn_lang.specs.declared.names.Sort.{Sort}
+use Rattle.fn_lang.specs.declared.names.Sort.TheVariants as sorts
+use Rattle.fn_lang.specs.declared.names.Given.{Given}
+use Rattle.fn_lang.specs.declared.names.Given.TheVariants as given
+use Rattle.fn_lang.specs.declared.names.Inner.{Inner}
+use Rattle.fn_lang.specs.declared.names.Inner.TheVariants.{One, Two, Three}
 use Rattle.fn_lang.specs.declared.steps.Want.{Want}
 use Rattle.fn_lang.specs.declared.steps.Want.TheVariants as wants
-use Rattle.fn_lang.specs.declared.steps.Shape.{Shape}
-use Rattle.fn_lang.specs.declared.steps.Shape.TheVariants as shapes
+use Rattle.fn_lang.specs.declared.names.Shape.{Shape}
+use Rattle.fn_lang.specs.declared.names.Shape.TheVariants as shapes
 use Rattle.fn_lang.specs.declared.steps.Step.{Step}
 use Rattle.fn_lang.specs.declared.faults.FnFault.{FnFault}
+use Rattle.fn_lang.specs.Grammar.{is_padded}
 use Rattle.fn_lang.specs.declared.faults.FnFault.TheVariants.{NotGrammar, TooLarge}
 
 abbrev pub same_codes : List ℕ → List ℕ → Bool
@@ -165,24 +166,23 @@ nothing_wanted [] = Some []
 nothing_wanted (w ∷ ws) = None
 
 -- the parts that the tokens are where these are wanted, and where empty brackets may stand first
-unfoldable pub parse : Bool → List Want → List Lexeme → Option (List Part)
+unfoldable pub parse : Bool → List Want → List Token → Option (List Part)
 parse bare ws [] = nothing_wanted ws
-parse bare ws (x ∷ xs) = if bare && is_open x.token then parse false (wants.Close ∷ ws) xs else wanted ws x.token (λ b us. parse b us xs)
+parse bare ws (t ∷ ts) = if bare && is_open t then parse false (wants.Close ∷ ws) ts else wanted ws t (λ b us. parse b us ts)
 
 abbrev pub parse_all : Bool → List Want → Option (List Lexeme) → Option (List Part)
 parse_all bare ws None = None
-parse_all bare ws (Some xs) = parse bare ws xs
-
--- the text begins or ends with a space
-abbrev pub is_padded : List ℕ → Bool
-is_padded text = nat_lt 0 (length text) && (slice_index text 0 == 32 || slice_index text (length text - 1) == 32)
+parse_all bare ws (Some xs) = parse bare ws (kinds_of xs)
 
 -- the parts that a text is, with any spaces between its tokens and none at its two ends
 unfoldable pub parts_of : Sort → List ℕ → Option (List Part)
 parts_of s text = if is_padded text then None else parse_all false (wants.Tree s ∷ []) (lexed text)
 
--- the parts of a text, where it is in the language and has at most 64
-abbrev pub IsReading : Sort → List ℕ → Result (List Part) FnFault → Type 0
-IsReading s text (Ok ps) = parts_of s text ≡ Some ps
-IsReading s text (Err NotGrammar) = parts_of s text ≡ None
-IsReading s text (Err TooLarge) = (ps : List Part) × (parts_of s text ≡ Some ps) × (64 < length ps)
+-- at most 64 parts are a value
+abbrev pub at_most_64 : Option (List Part) → Result (List Part) FnFault
+at_most_64 None = Err NotGrammar
+at_most_64 (Some ps) = if nat_lt 64 (length ps) then Err TooLarge else Ok ps
+
+-- what a text gives
+abbrev pub reading : Sort → List ℕ → Result (List Part) FnFault
+reading s text = at_most_64 (parts_of s text)

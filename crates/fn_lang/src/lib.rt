@@ -6,12 +6,17 @@
 mod eval;
 mod faults;
 mod leaves;
+mod names;
 mod parts;
+mod readers;
 mod reading;
 mod steps;
+#[cfg(test)]
+mod tests;
 mod values;
 
 pub use faults::FnFault;
 pub use leaves::{Map, Test};
 pub use parts::Part;
-pub use values::{Func, PairPred, Pred, read_func, read_pair_pred, read_pred};
+pub use readers::{read_func, read_pair_pred, read_pred};
+pub use values::{Func, PairPred, Pred};

@@ -29,6 +29,11 @@ pub enum Part {
 }
 
 impl Default for Part {
+    ghost use Rattle.std.specs.Prelude.{◌≡◌};
+    ghost use Rattle.fn_lang.specs.Flat.{blank};
+
+    ghost is_default = { λ p. p ≡ blank };
+
     /// `any`
     fn default() -> Self {
         Part::Test(Test::Any)

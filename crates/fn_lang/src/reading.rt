@@ -1,6 +1,7 @@
 //! The reader of predicates and functions.
 ghost use Rattle.std.specs.Prelude.{◌≡◌, ◌≤◌, ◌+◌, ◌++◌, [], ◌∷◌, List, length, take, MatchOption, None, Some, option_to_list, false};
-ghost use Rattle.fn_lang.specs.Reading.{parse_all, is_padded, IsReading};
+ghost use Rattle.fn_lang.specs.Reading.{parse_all, reading};
+ghost use Rattle.fn_lang.specs.Grammar.{is_padded};
 ghost use Rattle.std.specs.Prelude.{IfOk, MatchResult, Ok, Err};
 ghost use Rattle.fn_lang.specs.Flat.{IsSort};
 ghost use Rattle.elem.specs.Lexing.{lexed};
@@ -8,10 +9,14 @@ ghost use Rattle.fn_lang.specs.declared.steps.Want.TheVariants.{Tree};
 ghost use Rattle.fn_lang.specs.declared.parts.Part.{Part as AnyPart};
 
 use crate::faults::FnFault;
+use crate::names::Sort;
 use crate::parts::Part;
-use crate::steps::{Sort, Want, is_open, step_of};
+use crate::steps::{Want, is_open, step_of};
 use arrayvec::ArrayVec;
 use elem::{Ahead, next_lexeme};
+
+/// The most parts of a value.
+const MOST_PARTS: usize = 64;
 
 /// Puts what a token wants on the stack.
 fn put_wants(stack: &mut ArrayVec<Want, 1032>, next: Option<Want>, later: Option<Want>)
@@ -89,7 +94,7 @@ fn is_padded(text: &[u8]) -> bool
 #[tactic(auto, unfolding(crate::specs::Reading::parts_of))]
 pub fn read_parts(text: &[u8], sort: Sort) -> Result<ArrayVec<Part, 64>, FnFault>
     requires { length text.now ≤ 1024 }
-    ensures exact { MatchResult result (λ v. IsReading sort text.now (Ok v.items)) (λ e. IsReading sort text.now (Err e)) }
+    ensures exact { MatchResult result (λ v. reading sort text.now ≡ Ok v.items) (λ e. reading sort text.now ≡ Err e) }
     ensures tree { IfOk result (λ v. IsSort sort v.items) }
 {
     if is_padded(text) {
@@ -98,7 +103,7 @@ pub fn read_parts(text: &[u8], sort: Sort) -> Result<ArrayVec<Part, 64>, FnFault
     let Some((parts, count)) = read_tokens(text, sort) else {
         return Err(FnFault::NotGrammar);
     };
-    if count > 64 {
+    if count > MOST_PARTS {
         return Err(FnFault::TooLarge);
     }
     Ok(parts)

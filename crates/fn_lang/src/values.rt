@@ -1,17 +1,12 @@
 //! Predicates and functions as values.
 ghost use Rattle.std.specs.Prelude.{◌≡◌, ◌≤◌, length};
-ghost use Rattle.fn_lang.specs.Flat.{flat_of};
-ghost use Rattle.fn_lang.specs.Reading.{IsReading};
-ghost use Rattle.fn_lang.specs.declared.steps.Sort.TheVariants as sorts;
+ghost use Rattle.fn_lang.specs.Flat.{flat_of, IsPred, IsPairPred, IsFunc};
 ghost use Rattle.fn_lang.specs.Trees.{PredTree, PairTree, FuncTree, pred_parts, pair_parts, func_parts};
 ghost use Rattle.fn_lang.specs.Meaning.{pred_holds, pair_holds, func_value};
 
 use crate::eval::{apply, holds, pair_holds};
-use crate::faults::FnFault;
 use crate::leaves::Test;
 use crate::parts::Part;
-use crate::reading::read_parts;
-use crate::steps::Sort;
 use elem::Elem;
 use std::marker::Model;
 
@@ -93,9 +88,21 @@ impl Model for Func {
 }
 
 impl Pred {
+    /// The value with these parts.
+    pub(crate) fn of_parts(parts: &[Part]) -> Pred
+        requires fits { length parts.now ≤ 64 }
+        requires tree { IsPred parts.now }
+        ensures { result ≡ parts.now }
+    {
+        Pred {
+            flat: with_blanks(parts),
+        }
+    }
+
     /// Whether the predicate holds for an element.
     pub fn eval(&self, x: Elem) -> bool
-        ensures { (p : PredTree) → self.now ≡ pred_parts p → result ≡ pred_holds p x }
+        ensures value { (p : PredTree) → self.now ≡ pred_parts p → result ≡ pred_holds p x }
+        ensures tree { IsPred self.now }
     {
         let (truth, _) = holds(&self.flat.parts[..self.flat.len], x);
         truth
@@ -103,9 +110,21 @@ impl Pred {
 }
 
 impl PairPred {
+    /// The value with these parts.
+    pub(crate) fn of_parts(parts: &[Part]) -> PairPred
+        requires fits { length parts.now ≤ 64 }
+        requires tree { IsPairPred parts.now }
+        ensures { result ≡ parts.now }
+    {
+        PairPred {
+            flat: with_blanks(parts),
+        }
+    }
+
     /// Whether the predicate holds for a key and a value.
     pub fn eval(&self, k: Elem, v: Elem) -> bool
-        ensures { (p : PairTree) → self.now ≡ pair_parts p → result ≡ pair_holds p k v }
+        ensures value { (p : PairTree) → self.now ≡ pair_parts p → result ≡ pair_holds p k v }
+        ensures tree { IsPairPred self.now }
     {
         let (truth, _) = pair_holds(&self.flat.parts[..self.flat.len], k, v);
         truth
@@ -113,9 +132,21 @@ impl PairPred {
 }
 
 impl Func {
+    /// The value with these parts.
+    pub(crate) fn of_parts(parts: &[Part]) -> Func
+        requires fits { length parts.now ≤ 64 }
+        requires tree { IsFunc parts.now }
+        ensures { result ≡ parts.now }
+    {
+        Func {
+            flat: with_blanks(parts),
+        }
+    }
+
     /// The value of the function for an element.
     pub fn eval(&self, x: Elem) -> Elem
-        ensures { (f : FuncTree) → self.now ≡ func_parts f → result ≡ func_value f x }
+        ensures value { (f : FuncTree) → self.now ≡ func_parts f → result ≡ func_value f x }
+        ensures tree { IsFunc self.now }
     {
         let (value, _) = apply(&self.flat.parts[..self.flat.len], x);
         value
@@ -130,102 +161,4 @@ fn with_blanks(parts: &[Part]) -> Flat
     let len = parts.len();
     array[..len].copy_from_slice(parts);
     Flat { parts: array, len }
-}
-
-/// The predicate that a text is, with any spaces between its tokens and none at its two ends.
-///
-/// It is `NotGrammar` exactly where the text is not in the language, and `TooLarge` exactly where it is and has more
-/// than 64 parts.
-pub fn read_pred(text: &[u8]) -> Result<Pred, FnFault>
-    requires { length text.now ≤ 1024 }
-    ensures { IsReading sorts.Pred text.now result }
-{
-    match read_parts(text, Sort::Pred) {
-        Ok(parts) => Ok(Pred {
-            flat: with_blanks(parts.as_slice()),
-        }),
-        Err(fault) => Err(fault),
-    }
-}
-
-/// The predicate on pairs that a text is, with any spaces between its tokens and none at its two ends.
-///
-/// It is `NotGrammar` exactly where the text is not in the language, and `TooLarge` exactly where it is and has more
-/// than 64 parts.
-pub fn read_pair_pred(text: &[u8]) -> Result<PairPred, FnFault>
-    requires { length text.now ≤ 1024 }
-    ensures { IsReading sorts.PairPred text.now result }
-{
-    match read_parts(text, Sort::PairPred) {
-        Ok(parts) => Ok(PairPred {
-            flat: with_blanks(parts.as_slice()),
-        }),
-        Err(fault) => Err(fault),
-    }
-}
-
-/// The function that a text is, with any spaces between its tokens and none at its two ends.
-///
-/// It is `NotGrammar` exactly where the text is not in the language, and `TooLarge` exactly where it is and has more
-/// than 64 parts.
-pub fn read_func(text: &[u8]) -> Result<Func, FnFault>
-    requires { length text.now ≤ 1024 }
-    ensures { IsReading sorts.Func text.now result }
-{
-    match read_parts(text, Sort::Func) {
-        Ok(parts) => Ok(Func {
-            flat: with_blanks(parts.as_slice()),
-        }),
-        Err(fault) => Err(fault),
-    }
-}
-
-#[cfg(test)]
-mod tests {
-    use super::*;
-
-    #[test]
-    fn reads_and_evaluates(rt: HostRuntime) {
-        for (text, number, wanted) in [
-            ("any", 1, true),
-            ("any ( )", 1, true),
-            ("and(even, not(lt(-2)))", 4, true),
-            ("and(even, not(lt(-2)))", -4, false),
-            ("or(odd, gt( 8 ))", 10, true),
-            ("starts(a)", 1, false),
-        ] {
-            match read_pred(text.as_bytes()) {
-                Ok(pred) => assert!(rt; pred.eval(Elem::Int(number)) == wanted, "{text}"),
-                Err(fault) => assert!(rt; false, "{text}: {fault}"),
-            }
-        }
-        match read_func(b"when(even, then(plus(1), times(3)), len)") {
-            Ok(func) => {
-                assert!(rt; func.eval(Elem::Int(4)) == Elem::Int(15), "even");
-                assert!(rt; func.eval(Elem::Int(-15)) == Elem::Int(3), "odd");
-            }
-            Err(fault) => assert!(rt; false, "{fault}"),
-        }
-        match read_pair_pred(b"or(key(even), value(eq(a)))") {
-            Ok(pred) => assert!(rt; pred.eval(Elem::Int(2), Elem::Int(1)), "an even key"),
-            Err(fault) => assert!(rt; false, "{fault}"),
-        }
-        for text in [
-            "",
-            "any any",
-            " any",
-            "any(1)",
-            "lt",
-            "lt()",
-            "plus(1)",
-            "starts(1)",
-            "and(any)",
-            "key(any)",
-        ] {
-            assert!(rt;
-                matches!(read_pred(text.as_bytes()), Err(FnFault::NotGrammar)),
-                "{text}"
-            );
-        }
-    }
 }

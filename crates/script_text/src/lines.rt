@@ -14,6 +14,12 @@ pub struct Slice {
 }
 
 impl Default for Slice {
+    ghost use Rattle.std.specs.Prelude.{◌≡◌};
+    ghost use Rattle.script_text.specs.Trees.{no_slice};
+
+    ghost is_default = { λ place. place ≡ no_slice };
+
+    /// The empty place at the front of the line.
     fn default() -> Self {
         Slice { start: 0, end: 0 }
     }
@@ -40,6 +46,12 @@ pub struct Part {
 }
 
 impl Default for Part {
+    ghost use Rattle.std.specs.Prelude.{◌≡◌, [], ◌∷◌};
+    ghost use Rattle.script_text.specs.Trees.{part_of};
+
+    ghost is_default = { λ part. part ≡ part_of (record { word = 95 ∷ []; args = [] }) };
+
+    /// The word `_` without arguments.
     fn default() -> Self {
         Part {
             word: Word::default(),
