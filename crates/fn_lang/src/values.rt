@@ -11,7 +11,7 @@ use elem::Elem;
 use std::marker::Model;
 
 /// A list of at most 64 parts.
-#[derive(Clone, Copy)]
+#[derive(Clone, Copy, Debug)]
 struct Flat {
     // The parts past the length are `any`.
     parts: [Part; 64],
@@ -19,19 +19,19 @@ struct Flat {
 }
 
 /// A predicate of at most 64 parts. Contracts see its tree.
-#[derive(Clone, Copy)]
+#[derive(Clone, Copy, Debug)]
 pub struct Pred {
     flat: Flat,
 }
 
 /// A predicate on pairs of a key and a value, of at most 64 parts. Contracts see its tree.
-#[derive(Clone, Copy)]
+#[derive(Clone, Copy, Debug)]
 pub struct PairPred {
     flat: Flat,
 }
 
 /// A function of at most 64 parts. Contracts see its tree.
-#[derive(Clone, Copy)]
+#[derive(Clone, Copy, Debug)]
 pub struct Func {
     flat: Flat,
 }
