@@ -1,5 +1,5 @@
 -- An array that is filled from a list of parts.
-use Rattle.std.proofs.Common.{◌≡◌, ℕ, ◌-◌, ◌<◌, ◌≤◌, true, false, List, [], ◌∷◌, ◌++◌, length, take, drop, Option, Some, None, Ok, Err, refl, sym, ◌∙◌, arith, length-append}
+use Rattle.std.proofs.Common.{◌≡◌, ℕ, ◌-◌, ◌<◌, ◌≤◌, Bool, true, false, List, [], ◌∷◌, ◌++◌, length, take, drop, Option, Some, None, Ok, Err, refl, sym, ap, ◌∙◌, arith, length-append}
 use Rattle.std.specs.Prelude.{replicate, nat_lt}
 use Rattle.std.proofs.lemmas.Bool.Decides.{nat_tests}
 use Rattle.std.proofs.lemmas.List.{drop-replicate, take_at, take_all, length-replicate}
@@ -16,7 +16,12 @@ use Rattle.fn_lang.specs.Reading.{parse_all, parts_of, reading}
 use Rattle.fn_lang.proofs.FoundLaws.{Reads, some_parts, parsed_reads}
 use Rattle.fn_lang.specs.declared.parts.Part.{Part}
 use Rattle.fn_lang.specs.declared.values.Flat.{Flat}
-use Rattle.fn_lang.specs.Flat.{blank, flat_of, IsFlat, IsSort}
+use Rattle.fn_lang.specs.Flat.{blank, flat_of, IsFlat, IsSort, IsPred, IsPairPred, IsFunc, pred_whole, pair_whole, func_whole}
+use Rattle.elem.specs.declared.elements.Elem.{Elem}
+use Rattle.fn_lang.specs.PartTrees.{pred_of, pair_of, func_of, pred_of-parts, pair_of-parts, func_of-parts}
+use Rattle.fn_lang.specs.Trees.{PredTree, PairTree, FuncTree, pred_parts, pair_parts, func_parts}
+use Rattle.fn_lang.specs.Meaning.{pred_holds, pair_holds, func_value, HoldsAlong, PairHoldsAlong, GivesAlong}
+use Rattle.fn_lang.proofs.TreeLaws.{along_all, pair_all, gives_all}
 
 pub blanks_made : (new ps : List Part) → new ≡ ps → record { parts = new ++ drop (length ps) (replicate 64 blank); len = length ps } ≡ flat_of ps
 blanks_made new ps e =
@@ -72,3 +77,28 @@ parsed_is s (Some xs) ps h = is_sort s ps (kinds_of xs) (parsed_reads s (kinds_o
 
 pub reading_sort : (s : Sort) (text : List ℕ) (xs ps : List Part) → parse_all false (wants.Tree s ∷ []) (lexed text) ≡ Some ps → xs ≡ take 64 ps → length ps ≤ 64 → IsSort s xs
 reading_sort s text xs ps e k h = sort_as s xs ps (short_parts xs ps k h) (parsed_is s (lexed text) ps e)
+
+-- ---- an array that holds the parts of a tree holds that tree
+
+parts_kept : (f : Flat) (ps : List Part) → f ≡ flat_of ps → take f.len f.parts ≡ ps
+parts_kept f ps e = rw e (take_at ps (replicate (64 - length ps) blank) (length ps) refl)
+
+pub pred_kept : (f : Flat) (ps : List Part) → f ≡ flat_of ps → IsPred ps → pred_parts (pred_of (take f.len f.parts)) ≡ ps
+pred_kept f ps e is = ap (λ (qs : List Part). pred_parts (pred_of qs)) (parts_kept f ps e) ∙ pred_whole ps is
+
+pub pair_kept : (f : Flat) (ps : List Part) → f ≡ flat_of ps → IsPairPred ps → pair_parts (pair_of (take f.len f.parts)) ≡ ps
+pair_kept f ps e is = ap (λ (qs : List Part). pair_parts (pair_of qs)) (parts_kept f ps e) ∙ pair_whole ps is
+
+pub func_kept : (f : Flat) (ps : List Part) → f ≡ flat_of ps → IsFunc ps → func_parts (func_of (take f.len f.parts)) ≡ ps
+func_kept f ps e is = ap (λ (qs : List Part). func_parts (func_of qs)) (parts_kept f ps e) ∙ func_whole ps is
+
+-- ---- what is found along the parts is the meaning of the tree that they are
+
+pub pred_meaning : (x : Elem) (ps rest : List Part) (truth : Bool) (tree : PredTree) → HoldsAlong x ps truth rest → IsPred ps → pred_of ps ≡ tree → truth ≡ pred_holds tree x
+pred_meaning x ps rest truth tree along (p, e) is = along_all x ps rest truth p along e ∙ ap (λ (q : PredTree). pred_holds q x) (sym (pred_of-parts p) ∙ ap pred_of (sym e) ∙ is)
+
+pub pair_meaning : (k v : Elem) (ps rest : List Part) (truth : Bool) (tree : PairTree) → PairHoldsAlong k v ps truth rest → IsPairPred ps → pair_of ps ≡ tree → truth ≡ pair_holds tree k v
+pair_meaning k v ps rest truth tree along (p, e) is = pair_all k v ps rest truth p along e ∙ ap (λ (q : PairTree). pair_holds q k v) (sym (pair_of-parts p) ∙ ap pair_of (sym e) ∙ is)
+
+pub func_meaning : (x : Elem) (ps rest : List Part) (value : Elem) (tree : FuncTree) → GivesAlong x ps value rest → IsFunc ps → func_of ps ≡ tree → value ≡ func_value tree x
+func_meaning x ps rest value tree along (f, e) is = gives_all x ps rest value f along e ∙ ap (λ (g : FuncTree). func_value g x) (sym (func_of-parts f) ∙ ap func_of (sym e) ∙ is)

@@ -14,7 +14,7 @@ use Rattle.fn_lang.specs.declared.names.Sort.TheVariants as sorts
 use Rattle.fn_lang.specs.declared.steps.Want.TheVariants as wants
 use Rattle.fn_lang.specs.Trees.{PredTree, PairTree, FuncTree, pred_parts, pair_parts, func_parts}
 use Rattle.fn_lang.specs.Grammar.{HasTokens, is_padded, IsPredText, IsPairText, IsFuncText}
-use Rattle.fn_lang.specs.Reading.{parse_all, parts_of, at_most_64}
+use Rattle.fn_lang.specs.Reading.{parse_all, parts_of, at_most_64, with_parts}
 use Rattle.fn_lang.proofs.FoundLaws.{Reads, some_parts, parsed_reads}
 use Rattle.fn_lang.proofs.AgainLaws.{parsed_again}
 use Rattle.fn_lang.proofs.PartLaws.{pred_one, pair_one, func_one}
@@ -99,26 +99,35 @@ is_none (Some ps) h = absurd (h ps refl)
 none_some : (ps : List Part) → None ≡ some_parts ps → ⊥
 none_some ps h = cc
 
-pub finds_value : {T : Type 0} {parts : T → List Part} {stands : T → Type 0} {found : Option (List Part)} → Finds T parts stands found → (r : Result (List Part) FnFault) → r ≡ at_most_64 found → (ps : List Part) → (r ≡ some_result ps) ↔ ((tree : T) × stands tree × (ps ≡ parts tree) × (length ps ≤ 64))
-finds_value {T} {parts} {stands} {found} f r is ps = (
-  (λ h. let a = answered found ps (sym is ∙ h) in let t = f.read ps a.0 in (t.0, t.1, t.2, a.1)),
-  (λ (t, s, e, short). let g : found ≡ some_parts ps = f.again t s ∙ ap some_parts (sym e) in is ∙ rw (g, few (length ps) short) refl),
-)
+-- where its parts are the answer, the tree is
+answer_is : {T : Type 0} (parts : T → List Part) (r : Result T FnFault) (ps : List Part) → with_parts parts r ≡ some_result ps → (tree : T) × (r ≡ Ok tree) × (parts tree ≡ ps)
+answer_is parts (Ok tree) ps h = (tree, refl, cc)
+answer_is parts (Err e) ps h = absurd cc
 
-pub finds_too_large : {T : Type 0} {parts : T → List Part} {stands : T → Type 0} {found : Option (List Part)} → Finds T parts stands found → (r : Result (List Part) FnFault) → r ≡ at_most_64 found → (r ≡ fault TooLarge) ↔ ((tree : T) × stands tree × (64 < length (parts tree)))
-finds_too_large {T} {parts} {stands} {found} f r is = (
-  (λ h. let a = too_many found (sym is ∙ h) in let t = f.read a.0 a.1 in (t.0, t.1, rw t.2 at a.2)),
-  (λ (t, s, long). let g : found ≡ some_parts (parts t) = f.again t s in is ∙ rw (g, many (length (parts t)) long) refl),
-)
-
-pub finds_none : {T : Type 0} {parts : T → List Part} {stands : T → Type 0} {found : Option (List Part)} → Finds T parts stands found → (r : Result (List Part) FnFault) → r ≡ at_most_64 found → (r ≡ fault NotGrammar) ↔ ((tree : T) → stands tree → ⊥)
-finds_none {T} {parts} {stands} {found} f r is = (
-  (λ h t s. none_some (parts t) (sym (no_parts found (sym is ∙ h)) ∙ f.again t s)),
-  (λ none. let g : found ≡ None = is_none found (λ ps h. let t = f.read ps h in none t.0 t.1) in is ∙ rw g refl),
-)
+fault_is : {T : Type 0} (parts : T → List Part) (r : Result T FnFault) (e : FnFault) → with_parts parts r ≡ fault e → r ≡ Err e
+fault_is parts (Ok tree) e h = absurd cc
+fault_is parts (Err d) e h = cc
 
 some_is : (ps qs : List Part) → some_parts ps ≡ some_parts qs → ps ≡ qs
 some_is ps qs h = cc
+
+pub finds_value : {T : Type 0} {parts : T → List Part} {stands : T → Type 0} {found : Option (List Part)} → Finds T parts stands found → (r : Result T FnFault) → with_parts parts r ≡ at_most_64 found → (tree : T) → (r ≡ Ok tree) ↔ (stands tree × (length (parts tree) ≤ 64))
+finds_value {T} {parts} {stands} {found} f r is tree = (
+  (λ h. let a = answered found (parts tree) (sym is ∙ ap (with_parts parts) h) in let t = f.read (parts tree) a.0 in (rw (sym (f.same tree t.0 t.2)) at t.1, a.1)),
+  (λ (s, short). let g : found ≡ some_parts (parts tree) = f.again tree s in let a = answer_is parts r (parts tree) (is ∙ rw (g, few (length (parts tree)) short) refl) in a.1 ∙ ap Ok (f.same a.0 tree a.2)),
+)
+
+pub finds_too_large : {T : Type 0} {parts : T → List Part} {stands : T → Type 0} {found : Option (List Part)} → Finds T parts stands found → (r : Result T FnFault) → with_parts parts r ≡ at_most_64 found → (r ≡ Err TooLarge) ↔ ((tree : T) × stands tree × (64 < length (parts tree)))
+finds_too_large {T} {parts} {stands} {found} f r is = (
+  (λ h. let a = too_many found (sym is ∙ ap (with_parts parts) h) in let t = f.read a.0 a.1 in (t.0, t.1, rw t.2 at a.2)),
+  (λ (t, s, long). let g : found ≡ some_parts (parts t) = f.again t s in fault_is parts r TooLarge (is ∙ rw (g, many (length (parts t)) long) refl)),
+)
+
+pub finds_none : {T : Type 0} {parts : T → List Part} {stands : T → Type 0} {found : Option (List Part)} → Finds T parts stands found → (r : Result T FnFault) → with_parts parts r ≡ at_most_64 found → (r ≡ Err NotGrammar) ↔ ((tree : T) → stands tree → ⊥)
+finds_none {T} {parts} {stands} {found} f r is = (
+  (λ h t s. none_some (parts t) (sym (no_parts found (sym is ∙ ap (with_parts parts) h)) ∙ f.again t s)),
+  (λ none. let g : found ≡ None = is_none found (λ ps h. let t = f.read ps h in none t.0 t.1) in fault_is parts r NotGrammar (is ∙ rw g refl)),
+)
 
 pub finds_one : {T : Type 0} {parts : T → List Part} {stands : T → Type 0} {found : Option (List Part)} → Finds T parts stands found → (a b : T) → stands a → stands b → a ≡ b
 finds_one {T} {parts} {stands} {found} f a b s t = f.same a b (some_is (parts a) (parts b) (sym (f.again a s) ∙ f.again b t))

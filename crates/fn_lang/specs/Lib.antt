@@ -1,4 +1,5 @@
 pub mod Trees
+pub mod PartTrees
 pub mod Meaning
 pub mod Flat
 pub mod Grammar

@@ -186,3 +186,8 @@ at_most_64 (Some ps) = if nat_lt 64 (length ps) then Err TooLarge else Ok ps
 -- what a text gives
 abbrev pub reading : Sort → List ℕ → Result (List Part) FnFault
 reading s text = at_most_64 (parts_of s text)
+
+-- an answer with the parts of its tree
+abbrev pub with_parts : {T : Type 0} → (T → List Part) → Result T FnFault → Result (List Part) FnFault
+with_parts parts (Ok tree) = Ok (parts tree)
+with_parts parts (Err fault) = Err fault

@@ -1,6 +1,7 @@
-//! The language of predicates and functions on elements: their meaning as trees, and their values as flat lists.
+//! The language of predicates and functions on elements.
 //!
-//! A value has at most 64 parts, each name before what stands in its brackets, and takes no memory.
+//! Contracts see a value as its tree. It is a flat list of at most 64 parts, each name before what stands in its
+//! brackets, and takes no memory.
 #![tactic(auto)]
 
 mod eval;

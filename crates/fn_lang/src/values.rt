@@ -1,7 +1,7 @@
 //! Predicates and functions as values.
 ghost use Rattle.std.specs.Prelude.{◌≡◌, ◌≤◌, length};
 ghost use Rattle.fn_lang.specs.Flat.{flat_of, IsPred, IsPairPred, IsFunc};
-ghost use Rattle.fn_lang.specs.Trees.{PredTree, PairTree, FuncTree, pred_parts, pair_parts, func_parts};
+ghost use Rattle.fn_lang.specs.Trees.{pred_parts, pair_parts, func_parts};
 ghost use Rattle.fn_lang.specs.Meaning.{pred_holds, pair_holds, func_value};
 
 use crate::eval::{apply, holds, pair_holds};
@@ -11,78 +11,87 @@ use elem::Elem;
 use std::marker::Model;
 
 /// A list of at most 64 parts.
-#[derive(Clone, Copy)]
+#[derive(Clone, Copy, Debug)]
 struct Flat {
     // The parts past the length are `any`.
     parts: [Part; 64],
     len: usize,
 }
 
-/// A predicate of at most 64 parts. Contracts see the list of its parts.
-#[derive(Clone, Copy)]
+/// A predicate of at most 64 parts. Contracts see its tree.
+#[derive(Clone, Copy, Debug)]
 pub struct Pred {
     flat: Flat,
 }
 
-/// A predicate on pairs of a key and a value, of at most 64 parts. Contracts see the list of its parts.
-#[derive(Clone, Copy)]
+/// A predicate on pairs of a key and a value, of at most 64 parts. Contracts see its tree.
+#[derive(Clone, Copy, Debug)]
 pub struct PairPred {
     flat: Flat,
 }
 
-/// A function of at most 64 parts. Contracts see the list of its parts.
-#[derive(Clone, Copy)]
+/// A function of at most 64 parts. Contracts see its tree.
+#[derive(Clone, Copy, Debug)]
 pub struct Func {
     flat: Flat,
 }
 
 impl Model for Pred {
-    ghost use Rattle.std.specs.Prelude.{List, take};
-    ghost use Rattle.fn_lang.specs.declared.parts.Part.{Part as AnyPart};
+    ghost use Rattle.std.specs.Prelude.{take};
+    ghost use Rattle.fn_lang.specs.Trees.{PredTree, pred_parts};
+    ghost use Rattle.fn_lang.specs.PartTrees.{pred_of, pred_code};
 
-    ghost Value = { List AnyPart };
+    ghost Value = { PredTree };
+
+    ghost coded = { pred_code };
 
     ghost use Rattle.fn_lang.specs.Flat.{IsFlat, IsPred, flat_of, pred_back};
 
-    ghost view = { λ p. take p.flat.len p.flat.parts };
+    ghost view = { λ p. pred_of (take p.flat.len p.flat.parts) };
 
     ghost invariant = { λ p. IsFlat IsPred p.flat.len p.flat.parts };
 
-    ghost inverse = { λ ps. record { flat = flat_of ps } };
+    ghost inverse = { λ t. record { flat = flat_of (pred_parts t) } };
 
     ghost inverse_ok = { λ p flat. pred_back p flat };
 }
 
 impl Model for PairPred {
-    ghost use Rattle.std.specs.Prelude.{List, take};
-    ghost use Rattle.fn_lang.specs.declared.parts.Part.{Part as AnyPart};
+    ghost use Rattle.std.specs.Prelude.{take};
+    ghost use Rattle.fn_lang.specs.Trees.{PairTree, pair_parts};
+    ghost use Rattle.fn_lang.specs.PartTrees.{pair_of, pair_code};
 
-    ghost Value = { List AnyPart };
+    ghost Value = { PairTree };
+
+    ghost coded = { pair_code };
 
     ghost use Rattle.fn_lang.specs.Flat.{IsFlat, IsPairPred, flat_of, pair_back};
 
-    ghost view = { λ p. take p.flat.len p.flat.parts };
+    ghost view = { λ p. pair_of (take p.flat.len p.flat.parts) };
 
     ghost invariant = { λ p. IsFlat IsPairPred p.flat.len p.flat.parts };
 
-    ghost inverse = { λ ps. record { flat = flat_of ps } };
+    ghost inverse = { λ t. record { flat = flat_of (pair_parts t) } };
 
     ghost inverse_ok = { λ p flat. pair_back p flat };
 }
 
 impl Model for Func {
-    ghost use Rattle.std.specs.Prelude.{List, take};
-    ghost use Rattle.fn_lang.specs.declared.parts.Part.{Part as AnyPart};
+    ghost use Rattle.std.specs.Prelude.{take};
+    ghost use Rattle.fn_lang.specs.Trees.{FuncTree, func_parts};
+    ghost use Rattle.fn_lang.specs.PartTrees.{func_of, func_code};
 
-    ghost Value = { List AnyPart };
+    ghost Value = { FuncTree };
+
+    ghost coded = { func_code };
 
     ghost use Rattle.fn_lang.specs.Flat.{IsFlat, IsFunc, flat_of, func_back};
 
-    ghost view = { λ p. take p.flat.len p.flat.parts };
+    ghost view = { λ p. func_of (take p.flat.len p.flat.parts) };
 
     ghost invariant = { λ p. IsFlat IsFunc p.flat.len p.flat.parts };
 
-    ghost inverse = { λ ps. record { flat = flat_of ps } };
+    ghost inverse = { λ t. record { flat = flat_of (func_parts t) } };
 
     ghost inverse_ok = { λ p flat. func_back p flat };
 }
@@ -92,7 +101,7 @@ impl Pred {
     pub(crate) fn of_parts(parts: &[Part]) -> Pred
         requires fits { length parts.now ≤ 64 }
         requires tree { IsPred parts.now }
-        ensures { result ≡ parts.now }
+        ensures { pred_parts result ≡ parts.now }
     {
         Pred {
             flat: with_blanks(parts),
@@ -101,8 +110,7 @@ impl Pred {
 
     /// Whether the predicate holds for an element.
     pub fn eval(&self, x: Elem) -> bool
-        ensures value { (p : PredTree) → self.now ≡ pred_parts p → result ≡ pred_holds p x }
-        ensures tree { IsPred self.now }
+        ensures { result ≡ pred_holds self.now x }
     {
         let (truth, _) = holds(&self.flat.parts[..self.flat.len], x);
         truth
@@ -114,7 +122,7 @@ impl PairPred {
     pub(crate) fn of_parts(parts: &[Part]) -> PairPred
         requires fits { length parts.now ≤ 64 }
         requires tree { IsPairPred parts.now }
-        ensures { result ≡ parts.now }
+        ensures { pair_parts result ≡ parts.now }
     {
         PairPred {
             flat: with_blanks(parts),
@@ -123,8 +131,7 @@ impl PairPred {
 
     /// Whether the predicate holds for a key and a value.
     pub fn eval(&self, k: Elem, v: Elem) -> bool
-        ensures value { (p : PairTree) → self.now ≡ pair_parts p → result ≡ pair_holds p k v }
-        ensures tree { IsPairPred self.now }
+        ensures { result ≡ pair_holds self.now k v }
     {
         let (truth, _) = pair_holds(&self.flat.parts[..self.flat.len], k, v);
         truth
@@ -136,7 +143,7 @@ impl Func {
     pub(crate) fn of_parts(parts: &[Part]) -> Func
         requires fits { length parts.now ≤ 64 }
         requires tree { IsFunc parts.now }
-        ensures { result ≡ parts.now }
+        ensures { func_parts result ≡ parts.now }
     {
         Func {
             flat: with_blanks(parts),
@@ -145,8 +152,7 @@ impl Func {
 
     /// The value of the function for an element.
     pub fn eval(&self, x: Elem) -> Elem
-        ensures value { (f : FuncTree) → self.now ≡ func_parts f → result ≡ func_value f x }
-        ensures tree { IsFunc self.now }
+        ensures { result ≡ func_value self.now x }
     {
         let (value, _) = apply(&self.flat.parts[..self.flat.len], x);
         value
