@@ -1,7 +1,5 @@
-ghost use Rattle.std.specs.Prelude.{◌≡◌, ◌+◌, ◌<◌, ◌≤◌, [], length, None, Some, nat_eq, IsTrue, IfOk, OnOk, OnErr};
-ghost use Rattle.elem.specs.Elements.{same};
-ghost use Rattle.elem.specs.Rows.{first_key, last_key, key_after, key_before};
-ghost use Rattle.mm_base.specs.PairRows.{HasDistinctIds, IsLive, pair_of, rows_beside, first_pairs, count_of, id_of, has_pair, pair_at, with_pair, IsPut, without_id, without_pair, without_key};
+ghost use Rattle.std.specs.Prelude.{◌≡◌, ◌+◌, ◌<◌, ◌≤◌, [], None, Some, IsTrue, IfOk, OnOk, OnErr};
+ghost use Rattle.mm_base.specs.PairRows.{IsLive, count_of, id_of, has_pair, pair_at, with_pair, IsPut, without_id, without_pair, without_key};
 ghost use Rattle.mm_base.specs.Replacing.{IsReplaced};
 
 use crate::{FreeFlatPairs, PairId};

@@ -1,10 +1,8 @@
-ghost use Rattle.std.specs.Prelude.{◌≡◌, ℕ, ◌<◌, ◌≤◌, List, [], length, Option, Some, None, IsTrue, IfOk, OnOk, OnErr};
-ghost use Rattle.std.specs.Map.{set_value};
+ghost use Rattle.std.specs.Prelude.{◌≡◌, ℕ, ◌<◌, ◌≤◌, List, [], Some, None, IsTrue, IfOk, OnOk, OnErr};
 ghost use Rattle.elem.specs.declared.elements.Elem.{Elem as Key};
 ghost use Rattle.elem.specs.Elements.{same};
-ghost use Rattle.elem.specs.Rows.{first_key, last_key, key_after, key_before};
-ghost use Rattle.std.specs.Prelude.{nat_eq};
-ghost use Rattle.mm_base.specs.PairRows.{HasDistinctIds, IsLive, pair_of, pairs_of_key, rows_beside, first_pairs, count_of, id_of, has_pair, rows_of_pair, pair_at, with_pair, put_before, rows_from, IsPut, without_id, without_pair, without_key};
+ghost use Rattle.elem.specs.Rows.{first_key};
+ghost use Rattle.mm_base.specs.PairRows.{IsLive, pair_of, pairs_of_key, count_of, id_of, has_pair, pair_at, with_pair, rows_from, IsPut, without_id, without_pair, without_key};
 
 mod moving;
 mod neighbours;

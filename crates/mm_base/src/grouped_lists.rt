@@ -1,7 +1,6 @@
-ghost use Rattle.std.specs.Prelude.{◌≡◌, ◌+◌, ◌<◌, ◌≤◌, [], List, length, None, Some, nat_eq, IsTrue, IfOk, OnOk, OnErr};
-ghost use Rattle.elem.specs.Elements.{same};
-ghost use Rattle.elem.specs.Rows.{first_key, last_key, key_after, key_before};
-ghost use Rattle.mm_base.specs.PairRows.{Row, HasDistinctIds, IsLive, pair_of, rows_beside, first_pairs, count_of, id_of, has_pair, pair_at, with_pair, without_id, without_pair, without_key};
+ghost use Rattle.std.specs.Prelude.{◌≡◌, ◌+◌, ◌<◌, ◌≤◌, [], List, Some, IsTrue, IfOk, OnOk, OnErr};
+ghost use Rattle.elem.specs.Rows.{first_key};
+ghost use Rattle.mm_base.specs.PairRows.{Row, HasDistinctIds, IsLive, count_of, id_of, has_pair, pair_at, with_pair, without_id, without_pair, without_key};
 ghost use Rattle.mm_base.specs.GroupedRows.{IsGrouped, IsPutInGroup, IsReplacedInGroup, IsSplit};
 ghost use Rattle.mm_base.specs.Moving.{key_moved_last};
 

@@ -1,10 +1,8 @@
-ghost use Rattle.std.specs.Prelude.{◌≡◌, ◌+◌, ◌<◌, [], length, None, Some, nat_eq, IfOk, OnOk, OnErr, MatchBool, IsTrue};
-ghost use Rattle.elem.specs.Elements.{same};
-ghost use Rattle.elem.specs.Rows.{first_key, last_key, key_after, key_before};
-ghost use Rattle.mm_base.specs.PairRows.{HasDistinctIds, IsLive, pair_of, rows_beside, count_of, id_of, has_pair, IsPut, without_id, without_pair, without_key};
+ghost use Rattle.std.specs.Prelude.{◌≡◌, ◌+◌, ◌<◌, [], None, Some, IfOk, OnOk, OnErr, MatchBool, IsTrue};
+ghost use Rattle.mm_base.specs.PairRows.{IsLive, count_of, has_pair, IsPut, without_id, without_pair, without_key};
 ghost use Rattle.mm_base.specs.Exchanging.{each_once, IsExchanged};
 ghost use Rattle.mm_base.specs.Moving.{moved_last, key_last};
-ghost use Rattle.mm_base.specs.KeyedRows.{as_rows, AreKeysOf, HasDistinctPairs, with_key, keys_with_rows};
+ghost use Rattle.mm_base.specs.KeyedRows.{with_key, keys_with_rows};
 
 use crate::distinct_values::distinct_values;
 use crate::key_values::{KeyValue, pair_place};

@@ -1,5 +1,5 @@
 //! The places beside a pair's, and the ends of a key's pairs.
-ghost use Rattle.std.specs.Prelude.{◌≡◌, ℕ, Option, Some, nat_eq};
+ghost use Rattle.std.specs.Prelude.{◌≡◌, ℕ, Some, nat_eq};
 ghost use Rattle.std.specs.Option.{option_map};
 ghost use Rattle.elem.specs.declared.elements.Elem.{Elem as Key};
 ghost use Rattle.elem.specs.Rows.{last_key, key_after, key_before};

@@ -1,5 +1,5 @@
 //! What grouped pairs tell.
-ghost use Rattle.std.specs.Prelude.{◌≡◌, ◌+◌, ◌<◌, length, None, Some, nat_eq};
+ghost use Rattle.std.specs.Prelude.{◌≡◌, ◌+◌, ◌<◌, length, Some, nat_eq};
 ghost use Rattle.elem.specs.Elements.{same};
 ghost use Rattle.elem.specs.Rows.{first_key, last_key, key_after, key_before};
 ghost use Rattle.mm_base.specs.PairRows.{HasDistinctIds, IsLive, pair_of, rows_beside, first_pairs, count_of, id_of, has_pair};
