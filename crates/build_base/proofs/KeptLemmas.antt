@@ -4,7 +4,7 @@ use Rattle.std.specs.List.{filter, list_any}
 use Rattle.std.proofs.lemmas.Bool.Decides.{nat_tests}
 use Rattle.std.proofs.lemmas.List.{reverse-append, take_more}
 use Rattle.std.proofs.lemmas.List.Folds.{list_any-append, list_any_more}
-use Rattle.build_base.specs.Kept.{firsts, lasts, has_twice, those_like, grouped}
+use Rattle.build_base.specs.Kept.{firsts, lasts, has_twice, those_like}
 
 module _ {R : Type 0} where
   filter-push : (p : R → Bool) (rows : List R) (r : R) → filter p (rows ++ r ∷ []) ≡ cond (p r) (filter p rows ++ r ∷ []) (filter p rows)

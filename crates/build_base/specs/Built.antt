@@ -1,5 +1,5 @@
 -- What a builder makes of its items, and what it refuses.
-use Rattle.std.specs.Prelude.{◌≡◌, ℕ, ◌+◌, Bool, true, false, cond, nat_lt, nat_eq, ◌||◌, ⊤, List, [], ◌∷◌, ◌++◌, map, Some}
+use Rattle.std.specs.Prelude.{◌≡◌, ℕ, ◌+◌, Bool, false, cond, nat_lt, nat_eq, ◌||◌, ⊤, List, [], ◌∷◌, ◌++◌, map, Some}
 use Rattle.std.specs.List.{sum_by}
 use Rattle.elem.specs.declared.elements.Elem.{Elem}
 use Rattle.elem.specs.declared.build_kinds.BuildKind.{BuildKind}
@@ -7,7 +7,7 @@ use Rattle.elem.specs.declared.build_kinds.BuildKind.TheVariants as kind
 use Rattle.elem.specs.Elements.{same}
 use Rattle.elem.specs.Cuts.{same_cut}
 use Rattle.build_base.specs.declared.row.Row.{Row}
-use Rattle.build_base.specs.declared.row.Row.TheVariants.{One, Counted, Pair, Cell, Range, RangeValue, Edge}
+use Rattle.build_base.specs.declared.row.Row.TheVariants.{Counted, Range, RangeValue}
 use Rattle.build_base.specs.declared.part.Part.TheVariants.{First, Second, Both}
 use Rattle.build_base.specs.declared.finish.Finish.{Finish}
 use Rattle.build_base.specs.declared.finish.Finish.TheVariants.{Plain, OrThrow, KeepingLast}

@@ -1,5 +1,5 @@
 -- Which of a list's rows are kept: the first or the last of those that are alike, or those of each key in turn.
-use Rattle.std.specs.Prelude.{Bool, true, false, not, cond, ◌||◌, List, [], ◌∷◌, ◌++◌}
+use Rattle.std.specs.Prelude.{Bool, false, not, cond, ◌||◌, List, [], ◌∷◌, ◌++◌}
 use Rattle.std.specs.List.{filter, list_any}
 
 module _ {R : Type 0} (alike : R → R → Bool) where

@@ -1,15 +1,15 @@
 -- Ranges added one after another.
-use Rattle.std.specs.Prelude.{ℕ, Bool, false, ◌&&◌, ⊤, List, [], ◌∷◌, fold, Option, Some, None}
+use Rattle.std.specs.Prelude.{Bool, false, ◌&&◌, ⊤, List, [], fold, Option, Some, None}
 use Rattle.elem.specs.declared.elements.Elem.{Elem}
 use Rattle.elem.specs.declared.spans.Span.{Span}
 use Rattle.elem.specs.Cuts.{cut_before}
 use Rattle.elem.specs.Orders.{natural_before}
 use Rattle.elem.specs.Places.{place}
-use Rattle.range_base.specs.Rows.{Row as RangeRow, part}
+use Rattle.range_base.specs.Rows.{Row as RangeRow}
 use Rattle.range_base.specs.Edits.{add, put}
 use Rattle.range_base.specs.Spans.{row_of_span, row_of_entry}
 use Rattle.build_base.specs.declared.row.Row.{Row}
-use Rattle.build_base.specs.declared.row.Row.TheVariants.{One, Counted, Pair, Cell, Range, RangeValue, Edge}
+use Rattle.build_base.specs.declared.row.Row.TheVariants.{Range, RangeValue}
 
 -- the range of a row
 abbrev pub span_of : Row → Option Span

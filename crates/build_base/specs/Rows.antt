@@ -1,5 +1,5 @@
 -- Rows by their elements, and which of them fit a kind of builder.
-use Rattle.std.specs.Prelude.{ℕ, pos, Bool, ◌&&◌, ⊤}
+use Rattle.std.specs.Prelude.{pos, Bool, ◌&&◌, ⊤}
 use Rattle.elem.specs.declared.elements.Elem.{Elem}
 use Rattle.elem.specs.declared.elements.Elem.TheVariants.{Int}
 use Rattle.elem.specs.declared.build_kinds.BuildKind.{BuildKind}

@@ -1,6 +1,5 @@
-use Rattle.std.proofs.Common.{nat_lt, length, sym, ap, ◌∙◌, false}
+use Rattle.std.proofs.Common.{nat_lt, length, sym, ap, ◌∙◌}
 use Rattle.build_base.specs.Rows.{alike}
-use Rattle.build_base.specs.Kept.{firsts, has_twice}
 use Rattle.build_base.proofs.KeptLemmas.{has_twice-shorter, once}
 use Rattle.build_base.proofs.firsts.once.Goals as goal
 

@@ -13,6 +13,7 @@ pub invariant_of-self-2 : goal.invariant_of-self-2
 invariant_of-self-2 g c =
     let items = c.self.inside.items.items in
     let more : c.push_reserved.new.self.items ≡ items ++ c.args.r ∷ [] = c.push_reserved.ensures.items ∙ ap (λ l. l ++ c.args.r ∷ []) c.reserve.ensures.items in
-    let fits : Fits c.self.inside.kind c.args.r = subst (λ b. Fits b.kind c.args.r) (sym c.self.view_is) c.requires in
-    ( subst (AllFit c.self.inside.kind) (sym more) (fits-push c.self.inside.kind items c.args.r c.self.invariant.0 fits)
-    , λ x. c.in_ok-count_item.ensures.ok x ∙ ap (λ n. n + count_in x c.args.r) (c.self.invariant.1 x) ∙ sym (ap (λ l. count_of l x) more ∙ count_of-push items c.args.r x))
+    let fits : Fits c.self.inside.kind c.args.r = subst (λ b. Fits b.kind c.args.r) (sym c.self.view_is) c.requires in (
+      subst (AllFit c.self.inside.kind) (sym more) (fits-push c.self.inside.kind items c.args.r c.self.invariant.0 fits),
+      λ x. c.in_ok-count_item.ensures.ok x ∙ ap (λ n. n + count_in x c.args.r) (c.self.invariant.1 x) ∙ sym (ap (λ l. count_of l x) more ∙ count_of-push items c.args.r x),
+    )
