@@ -1,0 +1,4 @@
+pub mod KeptLemmas
+pub mod RowLemmas
+pub mod BuiltLemmas
+pub mod WalkLemmas
