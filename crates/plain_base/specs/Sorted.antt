@@ -8,17 +8,18 @@ use Rattle.elem.specs.declared.cuts.Cut.{Cut}
 use Rattle.elem.specs.declared.cuts.Cut.TheVariants.{Start, Below, Above, End}
 use Rattle.elem.specs.Cuts.{lies_between}
 
-module _ {V : Type 0} where
+module _ {K V : Type 0} where
   -- the key k comes before those of all rows
-  abbrev pub ComesFirst : (Elem → Elem → Bool) → Elem → List (Elem × V) → Type 0
+  abbrev pub ComesFirst : (K → K → Bool) → K → List (K × V) → Type 0
   ComesFirst before k [] = ⊤
   ComesFirst before k (row ∷ rows) = (before k row.0 ≡ true) × ComesFirst before k rows
 
   -- each key comes before those of all rows behind it
-  abbrev pub IsInOrder : (Elem → Elem → Bool) → List (Elem × V) → Type 0
+  abbrev pub IsInOrder : (K → K → Bool) → List (K × V) → Type 0
   IsInOrder before [] = ⊤
   IsInOrder before (row ∷ rows) = ComesFirst before row.0 rows × IsInOrder before rows
 
+module _ {V : Type 0} where
   -- the rows with a new one, before the first whose key comes after its own
   abbrev pub placed : (Elem → Elem → Bool) → List (Elem × V) → Elem → V → List (Elem × V)
   placed before [] k v = (k, v) ∷ []
