@@ -283,6 +283,13 @@ impl<V: Copy> FreeTwoKeyRows<V> {
         self.total = 0;
     }
 
+    /// No rows, for `put_group`.
+    pub fn no_group(&self) -> FreeTreeMapRows<V>
+        ensures { result ≡ [] }
+    {
+        FreeTreeMapRows::new(self.alloc)
+    }
+
     /// The keys of a first key's first row.
     fn first_pair_of(&self, k: Option<Elem>) -> Option<(Elem, Elem)>
         ensures { result ≡ first_pair_of k self.now }
