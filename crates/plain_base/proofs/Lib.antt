@@ -7,3 +7,5 @@ pub mod TwoKeysLemmas
 pub mod BothOrder
 pub mod Results
 pub mod Settling
+pub mod Having
+pub mod SameKeys

@@ -46,7 +46,7 @@ module _ {before : Elem → Elem → Bool} (o : IsStrictOrder before) where
       by true e = let f = ap (before a) (sym ((same-Decides k a).0 e)) in let g = o.irreflexive a in cc
       by false e = refl
 
-  apart_after : (k a : Elem) → before k a ≡ true → same k a ≡ false
+  pub apart_after : (k a : Elem) → before k a ≡ true → same k a ≡ false
   apart_after k a h = by (same k a) refl
     where
       by : (b : Bool) → same k a ≡ b → b ≡ false
@@ -54,7 +54,7 @@ module _ {before : Elem → Elem → Bool} (o : IsStrictOrder before) where
       by false e = refl
 
 module _ {before : Elem → Elem → Bool} (o : IsStrictOrder before) {W : Type 0} where
-  comes_on : (k a : Elem) (gs : List (Elem × W)) → before k a ≡ true → ComesFirst before a gs → ComesFirst before k gs
+  pub comes_on : (k a : Elem) (gs : List (Elem × W)) → before k a ≡ true → ComesFirst before a gs → ComesFirst before k gs
   comes_on k a [] h f = tt
   comes_on k a (g ∷ gs) h f = (o.transitive k a g.0 h f.0, comes_on k a gs h f.1)
 

@@ -18,7 +18,7 @@ insert_at : {X : Type 0} (us vs : List X) (x : X) → us ++ x ∷ vs ≡ insert 
 insert_at [] vs x = refl
 insert_at {X} (u ∷ us) vs x = ap (λ (l : List X). u ∷ l) (insert_at us vs x)
 
-parts : {X : Type 0} (i : ℕ) (xs : List X) → xs ≡ take i xs ++ drop i xs
+pub parts : {X : Type 0} (i : ℕ) (xs : List X) → xs ≡ take i xs ++ drop i xs
 parts zero xs = refl
 parts (suc i) [] = refl
 parts {X} (suc i) (x ∷ xs) = ap (λ (l : List X). x ∷ l) (parts i xs)

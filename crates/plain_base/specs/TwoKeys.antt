@@ -1,9 +1,9 @@
 -- Rows of two keys and a value: by the first key, and among those by the second.
-use Rattle.std.specs.Prelude.{Bool, cond, not, ◌&&◌, ◌||◌, List, [], ◌∷◌, ◌++◌}
+use Rattle.std.specs.Prelude.{Bool, cond, not, is_some, ◌&&◌, ◌||◌, List, [], ◌∷◌, ◌++◌}
 use Rattle.std.specs.List.{filter}
 use Rattle.elem.specs.declared.elements.Elem.{Elem}
 use Rattle.elem.specs.Elements.{same}
-use Rattle.elem.specs.Keyed.{IsPresent}
+use Rattle.elem.specs.Keyed.{value_at, IsPresent}
 use Rattle.elem.specs.Orders.{natural_before}
 use Rattle.plain_base.specs.Sorted.{IsInOrder, rows_above, rows_below}
 
@@ -25,6 +25,10 @@ module _ {V : Type 0} where
   abbrev pub by_both : List (Elem × (Elem × V)) → List ((Elem × Elem) × V)
   by_both [] = []
   by_both (row ∷ rows) = ((row.0, row.1.0), row.1.1) ∷ by_both rows
+
+  -- whether there is a row of these two keys
+  abbrev pub has_both : Elem → Elem → List (Elem × (Elem × V)) → Bool
+  has_both k x rows = is_some (value_at (group k rows) x)
 
   -- there is a row of these two keys
   abbrev pub HasBoth : List (Elem × (Elem × V)) → Elem → Elem → Type 0
