@@ -1,0 +1,3 @@
+pub mod CellLists
+pub mod RemovedCells
+pub mod TurnedCells
