@@ -1,3 +1,11 @@
 pub mod OrderLemmas
 pub mod SortedLemmas
 pub mod WindowLemmas
+pub mod SortedCuts
+pub mod GroupsLemmas
+pub mod TwoKeysLemmas
+pub mod BothOrder
+pub mod Results
+pub mod Settling
+pub mod Having
+pub mod SameKeys

@@ -1,8 +1,10 @@
 -- What a comparison answers, by the order that it is of.
-use Rattle.std.proofs.Common.{◌≡◌, Bool, true, false, not, cond, refl, sym, ap, ◌∙◌}
+use Rattle.std.proofs.Common.{◌≡◌, Bool, true, false, not, cond, List, Option, Some, refl, sym, ap, ◌∙◌}
 use Rattle.std.specs.Ordering.{is_eq, is_lt, is_le, is_gt}
 use Rattle.std.specs.declared.cmp.Ordering.TheVariants.{Less, Equal, Greater}
 use Rattle.std.specs.BTreeMap.{is_at}
+use Rattle.std.specs.Map.{lookup}
+use Rattle.elem.specs.Keyed.{value_at}
 use Rattle.elem.specs.declared.elements.Elem.{Elem}
 use Rattle.elem.specs.Elements.{same}
 use Rattle.elem.specs.ElementLaws.{same-Decides}
@@ -12,6 +14,10 @@ use Rattle.plain_base.specs.Ordered.{order_of, order_of-ties}
 -- a key is found by `same`
 pub is_at-order : (before : Elem → Elem → Bool) (k : Elem) → is_at (order_of before k) ≡ same k
 is_at-order before k = λ i q. sym (order_of-ties before k q) i
+
+-- what a look-up in a tree finds
+pub found_at : {W : Type 0} (before : Elem → Elem → Bool) (k q : Elem) (rows os : List (Elem × W)) (x : Option W) (w : W) → x ≡ lookup (is_at (order_of before q)) rows → q ≡ k → rows ≡ os → x ≡ Some w → value_at os k ≡ Some w
+found_at before k q rows os x w e a s h = ap (λ test. lookup test os) (sym (is_at-order before k)) ∙ (λ i. lookup (is_at (order_of before (sym a i))) (sym s i)) ∙ sym e ∙ h
 
 pub same_by_order : (before : Elem → Elem → Bool) → (λ (x y : Elem). is_eq (order_of before x y)) ≡ same
 same_by_order before = λ i x y. sym (order_of-ties before x y) i

@@ -60,15 +60,15 @@ module _ {V : Type 0} where
 
   -- ---- neighbours
   module _ {before : Elem → Elem → Bool} (o : IsStrictOrder before) where
-    all_above : (k : Elem) (rows : List (Elem × V)) → ComesFirst before k rows → rows_above before k rows ≡ rows
+    pub all_above : (k : Elem) (rows : List (Elem × V)) → ComesFirst before k rows → rows_above before k rows ≡ rows
     all_above k [] a = refl
     all_above k (row ∷ rows) a = rw a.0 (ap (λ (rest : List (Elem × V)). row ∷ rest) (all_above k rows a.1))
 
-    none_below : (k : Elem) (rows : List (Elem × V)) → ComesFirst before k rows → rows_below before k rows ≡ []
+    pub none_below : (k : Elem) (rows : List (Elem × V)) → ComesFirst before k rows → rows_below before k rows ≡ []
     none_below k [] a = refl
     none_below k (row ∷ rows) a = rw (one_way o k row.0 a.0) (none_below k rows a.1)
 
-    before_present : (a k : Elem) (rows : List (Elem × V)) → ComesFirst before a rows → IsPresent rows k → before a k ≡ true
+    pub before_present : (a k : Elem) (rows : List (Elem × V)) → ComesFirst before a rows → IsPresent rows k → before a k ≡ true
     before_present a k [] f p = cc
     before_present a k (row ∷ rows) f p = by (same k row.0) refl p (before_present a k rows f.1)
       where

@@ -1,3 +1,5 @@
 pub mod Ordered
 pub mod Sorted
 pub mod SortedLaws
+pub mod TwoKeys
+pub mod Groups

@@ -1,5 +1,5 @@
 -- Rows in an order of their keys: where a new one goes, and parts of them by their keys.
-use Rattle.std.specs.Prelude.{◌≡◌, Bool, true, cond, ⊤, List, [], ◌∷◌}
+use Rattle.std.specs.Prelude.{◌≡◌, Bool, true, false, cond, ⊤, List, [], ◌∷◌, Option, Some, None}
 use Rattle.std.specs.List.{filter}
 use Rattle.std.specs.declared.ops.Bound.{Bound}
 use Rattle.std.specs.declared.ops.Bound.TheVariants.{Included, Excluded, Unbounded}
@@ -7,18 +7,20 @@ use Rattle.elem.specs.declared.elements.Elem.{Elem}
 use Rattle.elem.specs.declared.cuts.Cut.{Cut}
 use Rattle.elem.specs.declared.cuts.Cut.TheVariants.{Start, Below, Above, End}
 use Rattle.elem.specs.Cuts.{lies_between}
+use Rattle.elem.specs.Orders.{natural_before}
 
-module _ {V : Type 0} where
+module _ {K V : Type 0} where
   -- the key k comes before those of all rows
-  abbrev pub ComesFirst : (Elem → Elem → Bool) → Elem → List (Elem × V) → Type 0
+  abbrev pub ComesFirst : (K → K → Bool) → K → List (K × V) → Type 0
   ComesFirst before k [] = ⊤
   ComesFirst before k (row ∷ rows) = (before k row.0 ≡ true) × ComesFirst before k rows
 
   -- each key comes before those of all rows behind it
-  abbrev pub IsInOrder : (Elem → Elem → Bool) → List (Elem × V) → Type 0
+  abbrev pub IsInOrder : (K → K → Bool) → List (K × V) → Type 0
   IsInOrder before [] = ⊤
   IsInOrder before (row ∷ rows) = ComesFirst before row.0 rows × IsInOrder before rows
 
+module _ {V : Type 0} where
   -- the rows with a new one, before the first whose key comes after its own
   abbrev pub placed : (Elem → Elem → Bool) → List (Elem × V) → Elem → V → List (Elem × V)
   placed before [] k v = (k, v) ∷ []
@@ -35,6 +37,11 @@ module _ {V : Type 0} where
   -- the rows whose keys come before k
   abbrev pub rows_below : (Elem → Elem → Bool) → Elem → List (Elem × V) → List (Elem × V)
   rows_below before k rows = filter (λ row. before row.0 k) rows
+
+-- the least element that passes in the natural order, or none where none does
+abbrev pub IsLeast : (Elem → Bool) → Option Elem → Type 0
+IsLeast passes None = (x : Elem) → passes x ≡ false
+IsLeast passes (Some c) = (passes c ≡ true) × ((x : Elem) → passes x ≡ true → natural_before x c ≡ false)
 
 -- where the keys of a tree that lie above a cut begin
 abbrev pub lower_bound : Cut → Bound Elem

@@ -34,7 +34,7 @@ pub(crate) fn upper_bound<C: Compare>(cut: &Cut) -> Bound<Ranked<C>>
 }
 
 /// The first key between two bounds.
-pub(crate) fn first_between<V: Copy, C: Compare>(
+pub(crate) fn first_between<V, C: Compare>(
     rows: &BTreeMap<Ranked<C>, V>,
     from: Bound<Ranked<C>>,
     to: Bound<Ranked<C>>,
@@ -50,7 +50,7 @@ pub(crate) fn first_between<V: Copy, C: Compare>(
 }
 
 /// The last key between two bounds.
-pub(crate) fn last_between<V: Copy, C: Compare>(
+pub(crate) fn last_between<V, C: Compare>(
     rows: &BTreeMap<Ranked<C>, V>,
     from: Bound<Ranked<C>>,
     to: Bound<Ranked<C>>,

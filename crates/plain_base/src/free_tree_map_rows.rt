@@ -1,9 +1,13 @@
-ghost use Rattle.std.specs.Prelude.{◌≡◌, length, true, [], Some, OnOk, OnErr};
+ghost use Rattle.std.specs.Prelude.{◌≡◌, length, true, [], Some, OnOk, OnErr, is_some, slice_get};
+ghost use Rattle.std.specs.Map.{keys_of};
+ghost use Rattle.std.specs.Option.{option_copied};
 ghost use Rattle.elem.specs.Cuts.{cut_upto};
 ghost use Rattle.elem.specs.Elements.{same};
 ghost use Rattle.elem.specs.Keyed.{value_at, IsPresent, IsAbsent, HasDistinctKeys, with_value, without};
 ghost use Rattle.elem.specs.Rows.{first_key, last_key, key_after, key_before};
 ghost use Rattle.plain_base.specs.Sorted.{IsInOrder, placed, rows_above, rows_below, rows_between};
+
+mod nested;
 
 use crate::bounds::{first_between, last_between, lower_bound, upper_bound};
 use crate::ranked::Ranked;
@@ -16,11 +20,11 @@ use std::ops::Bound;
 
 /// The rows of a sorted map, as `TreeMapRows`, with no count of steps.
 #[derive(Drop)]
-pub struct FreeTreeMapRows<V: Copy, C: Compare = Natural> {
+pub struct FreeTreeMapRows<V, C: Compare = Natural> {
     rows: BTreeMap<Ranked<C>, V>,
 }
 
-impl<V: Copy, C: Compare> Model for FreeTreeMapRows<V, C> {
+impl<V, C: Compare> Model for FreeTreeMapRows<V, C> {
     ghost use Rattle.std.specs.Prelude.{List};
     ghost use Rattle.elem.specs.declared.elements.Elem.{Elem as Element};
 
@@ -29,7 +33,7 @@ impl<V: Copy, C: Compare> Model for FreeTreeMapRows<V, C> {
     ghost view = { λ s. s.rows.entries };
 }
 
-impl<V: Copy, C: Compare> FreeTreeMapRows<V, C> {
+impl<V: Drop, C: Compare> FreeTreeMapRows<V, C> {
     /// No rows.
     pub fn new(alloc: Global) -> FreeTreeMapRows<V, C>
         ensures { result ≡ [] }
@@ -48,11 +52,33 @@ impl<V: Copy, C: Compare> FreeTreeMapRows<V, C> {
         self.rows.len()
     }
 
-    /// The value of a key.
-    pub fn probe(&self, k: Elem) -> Option<V>
-        ensures { result ≡ value_at self.now k }
+    /// The value of a key, where it stands.
+    pub fn get(&self, k: &Elem) -> Option<&V>
+        ensures { option_copied result ≡ value_at self.now k.now }
     {
-        self.rows.get(&Ranked::new(k)).copied()
+        self.rows.get(&Ranked::new(*k))
+    }
+
+    /// Whether a key has a value.
+    pub fn contains(&self, k: &Elem) -> bool
+        ensures { result ≡ is_some (value_at self.now k.now) }
+    {
+        self.rows.contains_key(&Ranked::new(*k))
+    }
+
+    /// The key of row number `i`, found by walking there.
+    pub fn at(&self, i: usize) -> Option<Elem>
+        ensures { result ≡ slice_get (keys_of self.now) i }
+    {
+        let _len = self.len();
+        let mut place = self.first();
+        for _step in 0..i {
+            match place {
+                Some(k) => place = self.after(k),
+                None => return None,
+            }
+        }
+        place
     }
 
     /// The key of the first row.
@@ -180,5 +206,14 @@ impl<V: Copy, C: Compare> FreeTreeMapRows<V, C> {
         ensures { self.new ≡ [] }
     {
         self.rows.clear();
+    }
+}
+
+impl<V: Copy, C: Compare> FreeTreeMapRows<V, C> {
+    /// The value of a key.
+    pub fn probe(&self, k: Elem) -> Option<V>
+        ensures { result ≡ value_at self.now k }
+    {
+        self.rows.get(&Ranked::new(k)).copied()
     }
 }

@@ -6,12 +6,15 @@ mod array_rows;
 mod bounds;
 mod free_array_rows;
 mod free_tree_map_rows;
+mod free_two_key_rows;
+mod groups;
 mod ranked;
 mod tree_map_rows;
 
 pub use array_rows::ArrayRows;
 pub use free_array_rows::FreeArrayRows;
 pub use free_tree_map_rows::FreeTreeMapRows;
+pub use free_two_key_rows::FreeTwoKeyRows;
 pub use tree_map_rows::{TreeMapRows, TreeSetRows};
 
 #[cfg(test)]

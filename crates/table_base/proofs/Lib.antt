@@ -13,3 +13,4 @@ pub mod HeldCells
 pub mod HeldSteps
 pub mod RowOrder
 pub mod HeldOrder
+pub mod TurnedCells

@@ -2,3 +2,4 @@ pub mod Cells
 pub mod Spots
 pub mod CellNodes
 pub mod Seeking
+pub mod TreeCells

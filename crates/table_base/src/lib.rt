@@ -9,7 +9,11 @@ mod linking;
 mod seeking;
 mod sides;
 mod spots;
+mod tree_cells;
 #[cfg(test)]
 mod tests;
+#[cfg(test)]
+mod tree_cells_tests;
 
 pub use linked_cells::LinkedCells;
+pub use tree_cells::TreeCells;

@@ -1,0 +1,20 @@
+use Rattle.std.proofs.Common.{sym, ap, ◌∙◌}
+use Rattle.std.specs.Prelude.{is_some}
+use Rattle.elem.specs.Elements.{same}
+use Rattle.elem.specs.Keyed.{value_at}
+use Rattle.elem.specs.Rows.{key_after}
+use Rattle.plain_base.specs.TwoKeys.{group}
+use Rattle.plain_base.proofs.SameKeys.{after_of_keys}
+use Rattle.table_base.specs.Cells.{column}
+use Rattle.table_base.proofs.TurnedCells.{row_of, column_keys}
+use Rattle.table_base.proofs.tree_cells.TreeCells.after_in_column.Goals as goal
+
+pub after_in-requires : goal.after_in-requires
+after_in-requires g c = c.self.invariant c.args.r c.args.c ∙ ap (λ l. is_some (value_at l c.args.c)) (row_of c.self.inside.rows c.args.self.now c.args.r c.self.view_is) ∙ c.requires
+
+pub returns-clause-row : goal.returns-clause-row
+returns-clause-row g c =
+    let rows = c.self.inside.rows in
+    let columns = c.self.inside.columns in
+    let keys = column_keys c.args.c rows columns c.self.invariant c.len-len.ensures.order c.len-columns_len.ensures.order in
+    c.after_in.ensures ∙ after_of_keys (same c.args.r) (group c.args.c columns) (column c.args.c rows) keys ∙ ap (λ cells. key_after (same c.args.r) (column c.args.c cells)) c.self.view_is
