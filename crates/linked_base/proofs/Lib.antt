@@ -7,3 +7,4 @@ pub mod GroupLemmas
 pub mod LinkedMapLemmas
 pub mod LinkedMapSteps
 pub mod HeldRows
+pub mod RowNumbers

@@ -1,10 +1,10 @@
-ghost use Rattle.std.specs.Prelude.{◌≡◌, ℕ, ◌<◌, ◌≤◌, List, [], length, Option, Some, None, IsTrue, IfOk, OnOk, OnErr};
+ghost use Rattle.std.specs.Prelude.{◌≡◌, ℕ, ◌<◌, ◌≤◌, List, [], ◌∷◌, ◌++◌, length, Option, Some, None, IsTrue, IfOk, OnOk, OnErr};
 ghost use Rattle.std.specs.Map.{set_value};
 ghost use Rattle.elem.specs.declared.elements.Elem.{Elem as Key};
 ghost use Rattle.elem.specs.Elements.{same};
 ghost use Rattle.elem.specs.Rows.{first_key, last_key, key_after, key_before};
 ghost use Rattle.std.specs.Prelude.{nat_eq};
-ghost use Rattle.mm_base.specs.PairRows.{HasDistinctIds, IsLive, pair_of, pairs_of_key, rows_beside, first_pairs, count_of, id_of, has_pair, rows_of_pair, pair_at, with_pair, put_before, rows_from, IsPut, without_id, without_pair, without_key};
+ghost use Rattle.mm_base.specs.PairRows.{HasDistinctIds, IsLive, IsNew, pair_of, pairs_of_key, rows_beside, first_pairs, count_of, id_of, has_pair, rows_of_pair, pair_at, with_pair, put_before, rows_from, IsPut, without_id, without_pair, without_key};
 
 mod replacing;
 
@@ -166,6 +166,16 @@ impl FreeFlatPairs {
         Ok(true)
     }
 
+    /// Puts a pair, last, and tells its id.
+    pub fn add(&mut self, k: Elem, v: Elem) -> Result<PairId, NoMemory>
+        ensures fresh { IfOk result (λ p. IsNew self.old p) }
+        ensures ok { IfOk result (λ p. self.new ≡ self.old ++ (p, (k, v)) ∷ []) }
+        ensures err { OnErr result (self.new ≡ self.old) }
+    {
+        let place = self.link_place(&k, &v, None, None)?;
+        Ok(id_at(place))
+    }
+
     /// Puts a pair before its key's pair number `i`, or last of all where the key has just `i`.
     pub fn put_at(&mut self, k: Elem, i: usize, v: Elem) -> Result<(), NoMemory>
         requires { i ≤ count_of k self.old }
@@ -313,6 +323,24 @@ impl FreeFlatPairs {
         ensures ok { OnOk result (IsPut next k.now v.now self.old self.new) }
         ensures err { OnErr result (self.new ≡ self.old) }
     {
+        self.link_place(k, v, next, next_in_key)?;
+        Ok(())
+    }
+
+    /// As `link`, and tells the place of the new pair.
+    fn link_place(
+        &mut self,
+        k: &Elem,
+        v: &Elem,
+        next: Option<usize>,
+        next_in_key: Option<usize>,
+    ) -> Result<usize, NoMemory>
+        requires next { (q : ℕ) → next ≡ Some q → IsLive self.old q }
+        requires in_key { next_in_key ≡ first_key (pairs_of_key k.now (rows_from next self.old)) }
+        ensures fresh { IfOk result (λ place. IsNew self.old place) }
+        ensures ok { IfOk result (λ place. self.new ≡ put_before next (place, (k.now, v.now)) self.old) }
+        ensures err { OnErr result (self.new ≡ self.old) }
+    {
         if self.nodes.reserve(1).is_err() {
             return Err(NoMemory);
         }
@@ -320,7 +348,7 @@ impl FreeFlatPairs {
             return Err(NoMemory);
         }
         let mut group = group_of(&self.groups, k);
-        link_pair(
+        let place = link_pair(
             &mut self.nodes,
             &mut self.all,
             &mut group,
@@ -330,6 +358,6 @@ impl FreeFlatPairs {
             next_in_key,
         );
         write_group(&mut self.groups, k, group);
-        Ok(())
+        Ok(place)
     }
 }
