@@ -1,0 +1,12 @@
+//! Guava's mutable value graphs as a list of nodes and a list of edges. Both stand in the order in which they were first
+//! put, and what is put again keeps its place.
+#![tactic(auto)]
+
+mod edge_row;
+mod edge_rows;
+mod faults;
+mod halves;
+mod ways;
+
+pub use faults::GraphFault;
+pub use ways::Way;
