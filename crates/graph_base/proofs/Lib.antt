@@ -6,3 +6,5 @@ pub mod EdgeRowsSteps
 pub mod HalvesLemmas
 pub mod HeldEdges
 pub mod IncidentLemmas
+pub mod CountedLemmas
+pub mod NodesLemmas

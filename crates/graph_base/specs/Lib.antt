@@ -4,3 +4,4 @@ pub mod Graphs
 pub mod Ends
 pub mod Numbers
 pub mod EdgeRows
+pub mod Counted

@@ -2,6 +2,7 @@
 //! put, and what is put again keeps its place.
 #![tactic(auto)]
 
+mod degrees;
 mod edge_row;
 mod edge_rows;
 mod faults;
