@@ -8,3 +8,6 @@ pub mod HeldEdges
 pub mod IncidentLemmas
 pub mod CountedLemmas
 pub mod NodesLemmas
+pub mod GraphSteps
+pub mod GraphLemmas
+pub mod GraphAnswers

@@ -15,12 +15,12 @@ out_of a edges = length (filter (λ (e : Edge). same a e.0) edges)
 abbrev pub into : Elem → List Edge → ℕ
 into a edges = length (filter (λ (e : Edge). same a e.1) edges)
 
--- the ends of edges at a node: a loop has two
-abbrev pub ends_at : Elem → List Edge → ℕ
-ends_at a edges = out_of a edges + into a edges
+-- A node's degree by the numbers of edges from it and to it. A loop counts at both its ends. Without directions each edge
+-- goes both ways.
+abbrev pub degree_by : Bool → Way → ℕ → ℕ → ℕ
+degree_by directed Both from to = from + to
+degree_by directed Into from to = cond directed to (from + to)
+degree_by directed Out from to = cond directed from (from + to)
 
--- A node's degree. Without directions each edge goes both ways.
-abbrev pub degree_of : Bool → Elem → Way → List Edge → ℕ
-degree_of directed a Both edges = ends_at a edges
-degree_of directed a Into edges = cond directed (into a edges) (ends_at a edges)
-degree_of directed a Out edges = cond directed (out_of a edges) (ends_at a edges)
+abbrev pub degree_of : Bool → Way → Elem → List Edge → ℕ
+degree_of directed way a edges = degree_by directed way (out_of a edges) (into a edges)

@@ -5,3 +5,4 @@ pub mod Ends
 pub mod Numbers
 pub mod EdgeRows
 pub mod Counted
+pub mod Faults

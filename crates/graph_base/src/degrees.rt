@@ -1,14 +1,16 @@
 //! The nodes of a graph in order, each with the numbers of the edges that leave it and enter it.
-ghost use Rattle.std.specs.Prelude.{◌≡◌, ◌<◌, List, [], ◌∷◌, ◌++◌, Some, None, cond, not, IsSome, IfOk, OnErr};
+ghost use Rattle.std.specs.Prelude.{◌≡◌, ◌<◌, ◌≤◌, pos, List, [], ◌∷◌, ◌++◌, Some, None, cond, not, IsSome, IfOk, OnErr};
 ghost use Rattle.std.specs.Map.{keys_of};
 ghost use Rattle.elem.specs.declared.elements.Elem.{Elem as Key};
 ghost use Rattle.elem.specs.Elements.{same};
 ghost use Rattle.elem.specs.Keyed.{value_at, IsPresent, without};
 ghost use Rattle.mm_base.specs.KeyedRows.{contains};
 ghost use Rattle.graph_base.specs.declared.degrees.Degrees.{Degrees as Counts};
+ghost use Rattle.graph_base.specs.Degrees.{degree_by};
 ghost use Rattle.graph_base.specs.Edges.{Edge};
 ghost use Rattle.graph_base.specs.Counted.{no_degrees, with_new, AreCounted};
 
+use crate::ways::Way;
 use elem::{Elem, NoMemory};
 use linked_base::FreeLinkedMap;
 
@@ -17,6 +19,23 @@ use linked_base::FreeLinkedMap;
 pub struct Degrees {
     pub leaving: usize,
     pub entering: usize,
+}
+
+/// A node's degree, by its counts.
+pub fn degree_by(directed: bool, way: Way, leaving: usize, entering: usize) -> i32
+    requires leaving { leaving ≤ 1073741823 }
+    requires entering { entering ≤ 1073741823 }
+    ensures { result ≡ pos (degree_by directed way leaving entering) }
+{
+    let both = (leaving + entering) as i32;
+    if !directed {
+        return both;
+    }
+    match way {
+        Way::Both => both,
+        Way::Into => entering as i32,
+        Way::Out => leaving as i32,
+    }
 }
 
 /// Puts a node without edges last, where it is new, and tells whether it is.

@@ -6,8 +6,11 @@ mod degrees;
 mod edge_row;
 mod edge_rows;
 mod faults;
+mod graph_edits;
 mod halves;
+mod value_graph_rows;
 mod ways;
 
 pub use faults::GraphFault;
+pub use value_graph_rows::ValueGraphRows;
 pub use ways::Way;
