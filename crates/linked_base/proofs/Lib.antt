@@ -11,3 +11,4 @@ pub mod LinkedMapSteps
 pub mod HeldRows
 pub mod MovingLemmas
 pub mod MovedRows
+pub mod RowNumbers

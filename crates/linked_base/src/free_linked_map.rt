@@ -1,4 +1,4 @@
-ghost use Rattle.std.specs.Prelude.{◌≡◌, ◌⊎◌, List, [], ◌∷◌, ◌++◌, length, Some, OnOk, OnErr, IfOk};
+ghost use Rattle.std.specs.Prelude.{◌≡◌, ◌⊎◌, List, [], ◌∷◌, ◌++◌, length, slice_get, Some, OnOk, OnErr, IfOk};
 ghost use Rattle.elem.specs.declared.elements.Elem.{Elem as Key};
 ghost use Rattle.elem.specs.Elements.{same};
 ghost use Rattle.elem.specs.Rows.{first_key, last_key, key_after, key_before, set_row};
@@ -9,7 +9,7 @@ use crate::links::Ends;
 use crate::row_nodes::{
     AllRows, Node, key_at, new_node, place_of, take_place, write_place, write_row,
 };
-use crate::thread::{link_before, unlink};
+use crate::thread::{link_before, nth, unlink};
 use elem::{Elem, NoMemory};
 use slab::Slab;
 use std::alloc::Global;
@@ -82,6 +82,15 @@ impl<V: Copy> FreeLinkedMap<V> {
         ensures { result ≡ last_key self.now }
     {
         key_at(&self.nodes, self.ends.last)
+    }
+
+    /// Row number `i`, counted from 0.
+    pub fn row_at(&self, i: usize) -> Option<(Elem, V)>
+        ensures { result ≡ slice_get self.now i }
+    {
+        let place = nth::<AllRows, Node<V>>(&self.nodes, &self.ends, i)?;
+        let node = &self.nodes[place];
+        Some((node.key, node.value))
     }
 
     /// The key after `k`.

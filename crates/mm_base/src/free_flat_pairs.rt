@@ -1,8 +1,8 @@
-ghost use Rattle.std.specs.Prelude.{◌≡◌, ℕ, ◌<◌, ◌≤◌, List, [], Some, None, IsTrue, IfOk, OnOk, OnErr};
+ghost use Rattle.std.specs.Prelude.{◌≡◌, ℕ, ◌<◌, ◌≤◌, List, [], ◌∷◌, ◌++◌, Some, None, IsTrue, IfOk, OnOk, OnErr};
 ghost use Rattle.elem.specs.declared.elements.Elem.{Elem as Key};
 ghost use Rattle.elem.specs.Elements.{same};
 ghost use Rattle.elem.specs.Rows.{first_key};
-ghost use Rattle.mm_base.specs.PairRows.{IsLive, pair_of, pairs_of_key, count_of, id_of, has_pair, pair_at, with_pair, rows_from, IsPut, without_id, without_pair, without_key};
+ghost use Rattle.mm_base.specs.PairRows.{IsLive, IsNew, pair_of, pairs_of_key, count_of, id_of, has_pair, pair_at, with_pair, put_before, rows_from, IsPut, without_id, without_pair, without_key};
 
 mod moving;
 mod neighbours;
@@ -11,7 +11,7 @@ mod placing;
 mod reading;
 mod replacing;
 
-use crate::pair_id::{PairId, place_of};
+use crate::pair_id::{PairId, id_at, place_of};
 use crate::pair_nodes::{PairNode, link_pair, unlink_pair, write_value};
 use elem::{Elem, NoMemory};
 use linked_base::group::{Group, group_of, keep_group, write_group};
@@ -68,6 +68,16 @@ impl FreeFlatPairs {
     {
         self.link(&k, &v, None, None)?;
         Ok(true)
+    }
+
+    /// Puts a pair, last, and tells its id.
+    pub fn add(&mut self, k: Elem, v: Elem) -> Result<PairId, NoMemory>
+        ensures fresh { IfOk result (λ p. IsNew self.old p) }
+        ensures ok { IfOk result (λ p. self.new ≡ self.old ++ (p, (k, v)) ∷ []) }
+        ensures err { OnErr result (self.new ≡ self.old) }
+    {
+        let place = self.link_place(&k, &v, None, None)?;
+        Ok(id_at(place))
     }
 
     /// Puts a pair before its key's pair number `i`, or last of all where the key has just `i`.
@@ -173,6 +183,24 @@ impl FreeFlatPairs {
         ensures ok { OnOk result (IsPut next k.now v.now self.old self.new) }
         ensures err { OnErr result (self.new ≡ self.old) }
     {
+        self.link_place(k, v, next, next_in_key)?;
+        Ok(())
+    }
+
+    /// As `link`, and tells the place of the new pair.
+    fn link_place(
+        &mut self,
+        k: &Elem,
+        v: &Elem,
+        next: Option<usize>,
+        next_in_key: Option<usize>,
+    ) -> Result<usize, NoMemory>
+        requires next { (q : ℕ) → next ≡ Some q → IsLive self.old q }
+        requires in_key { next_in_key ≡ first_key (pairs_of_key k.now (rows_from next self.old)) }
+        ensures fresh { IfOk result (λ place. IsNew self.old place) }
+        ensures ok { IfOk result (λ place. self.new ≡ put_before next (place, (k.now, v.now)) self.old) }
+        ensures err { OnErr result (self.new ≡ self.old) }
+    {
         if self.nodes.reserve(1).is_err() {
             return Err(NoMemory);
         }
@@ -180,7 +208,7 @@ impl FreeFlatPairs {
             return Err(NoMemory);
         }
         let mut group = group_of(&self.groups, k);
-        link_pair(
+        let place = link_pair(
             &mut self.nodes,
             &mut self.all,
             &mut group,
@@ -190,6 +218,6 @@ impl FreeFlatPairs {
             next_in_key,
         );
         write_group(&mut self.groups, k, group);
-        Ok(())
+        Ok(place)
     }
 }

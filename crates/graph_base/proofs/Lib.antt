@@ -1,0 +1,13 @@
+pub mod Cuts
+pub mod EndsLemmas
+pub mod NumberLemmas
+pub mod EdgesLemmas
+pub mod EdgeRowsSteps
+pub mod HalvesLemmas
+pub mod HeldEdges
+pub mod IncidentLemmas
+pub mod CountedLemmas
+pub mod NodesLemmas
+pub mod GraphSteps
+pub mod GraphLemmas
+pub mod GraphAnswers
