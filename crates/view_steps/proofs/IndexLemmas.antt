@@ -1,0 +1,194 @@
+-- A list view shows every row of its base, from the front or from the back.
+use Rattle.std.proofs.Common.{◌≡◌, ℕ, ◌-◌, ◌<◌, ◌≤◌, List, [], ◌∷◌, ◌++◌, length, map, reverse, take, drop, refl, ap, sym, ◌∙◌, arith, Bool, true, false, cond, not}
+use Rattle.std.specs.Prelude.{filter, slice_get, Some, IsSome, option_map}
+use Rattle.std.specs.List.{insert, take-map, drop-map}
+use Rattle.std.proofs.lemmas.List.{get_or-reverse, length-reverse, length-map, length-drop, take-append-drop, take_at, drop_at, reverse-append, map-append, append_assoc}
+use Rattle.std.proofs.lemmas.Option.{slice_get-get_or, slice_get-map}
+use Rattle.view_steps.specs.declared.items.Item.{Item}
+use Rattle.view_steps.specs.declared.shapes.RowSort.TheVariants as rows
+use Rattle.view_steps.specs.declared.shapes.Shape.{Shape}
+use Rattle.view_steps.specs.declared.shapes.Shape.TheVariants as shape
+use Rattle.view_steps.specs.declared.steps.ChangeStep.TheVariants.{Transform, TransformValues, AsMap}
+use Rattle.view_steps.specs.declared.steps.FilterStep.TheVariants.{Filter, FilterKeys, FilterValues}
+use Rattle.view_steps.specs.declared.steps.PlainStep.TheVariants.{Reverse, KeySet, Values, EntrySet, Descending, Unmodifiable}
+use Rattle.view_steps.specs.declared.steps.Step.{Step}
+use Rattle.view_steps.specs.declared.steps.Step.TheVariants as step
+use Rattle.view_steps.specs.Indexes.{is_list, item_index, gap_index}
+use Rattle.view_steps.specs.Lanes.{turned_if}
+use Rattle.view_steps.specs.RowForm.{RowForm, form_over, form_of, shows, shown_by, IsShownAs}
+use Rattle.view_steps.specs.Steps.{family_of, apply, on_list, on_coll, on_set, on_map}
+use Rattle.view_steps.specs.KeptSteps.{IsMade}
+use Rattle.view_steps.specs.Views.{World, View, base, over, base_at, base_under, shape_at, shape_after, flags_at, shown, lift}
+use Rattle.view_steps.proofs.EditLemmas.{lift_law}
+use Rattle.view_steps.proofs.ListLemmas.{filter-all, never}
+use Rattle.view_steps.proofs.RowLemmas.{shown_law}
+
+-- ---- the steps between lists
+
+coll_no_list : (it : Step) → is_list (shape_after shape.Coll (on_coll it)) ≡ false
+coll_no_list (step.Plain Unmodifiable) = refl
+coll_no_list (step.Change Transform f) = refl
+coll_no_list (step.Filter Filter p) = refl
+coll_no_list _ = refl
+
+set_no_list : (sorted : Bool) (it : Step) → is_list (shape_after (shape.Set sorted) (on_set sorted it)) ≡ false
+set_no_list sorted (step.Change Transform f) = refl
+set_no_list sorted (step.Change AsMap f) = refl
+set_no_list sorted (step.Filter Filter p) = refl
+set_no_list true (step.Plain Descending) = refl
+set_no_list false (step.Plain Descending) = refl
+set_no_list sorted (step.Plain Unmodifiable) = refl
+set_no_list true (step.Within order w) = refl
+set_no_list false (step.Within order w) = refl
+set_no_list sorted _ = refl
+
+map_no_list : (sorted : Bool) (it : Step) → is_list (shape_after (shape.Map sorted) (on_map sorted it)) ≡ false
+map_no_list true (step.Within order w) = refl
+map_no_list false (step.Within order w) = refl
+map_no_list true (step.Plain Descending) = refl
+map_no_list false (step.Plain Descending) = refl
+map_no_list sorted (step.Plain KeySet) = refl
+map_no_list sorted (step.Plain Values) = refl
+map_no_list sorted (step.Plain EntrySet) = refl
+map_no_list sorted (step.Plain Unmodifiable) = refl
+map_no_list sorted (step.Filter FilterKeys p) = refl
+map_no_list sorted (step.Filter FilterValues p) = refl
+map_no_list sorted (step.FilterPairs q) = refl
+map_no_list sorted (step.Change TransformValues f) = refl
+map_no_list sorted _ = refl
+
+-- the steps from a list to a list
+abbrev IsListStep : Step → Type 0
+IsListStep (step.Plain Reverse) = Unit {0}
+IsListStep (step.Plain Unmodifiable) = Unit {0}
+IsListStep (step.Change Transform f) = Unit {0}
+IsListStep _ = ⊥
+
+list_step : (it : Step) → IsSome (on_list it) → is_list (shape_after shape.List (on_list it)) ≡ true → IsListStep it
+list_step (step.Plain Reverse) some h = tt
+list_step (step.Plain Unmodifiable) some h = tt
+list_step (step.Change Transform f) some h = tt
+list_step (step.Filter Filter p) some h = absurd (cc)
+list_step _ some h = absurd (cc)
+
+list_below : (of : Shape) (it : Step) → IsSome (apply of it) → is_list (shape_after of (apply of it)) ≡ true → (is_list of ≡ true) × IsListStep it
+list_below shape.List it some h = (refl, list_step it some h)
+list_below (shape.Set sorted) it some h = absurd (never (is_list (shape_after (shape.Set sorted) (on_set sorted it))) (set_no_list sorted it) h)
+list_below shape.Coll it some h = absurd (never (is_list (shape_after shape.Coll (on_coll it))) (coll_no_list it) h)
+list_below (shape.Rows rows.Entry) it some h = absurd (cc)
+list_below (shape.Map sorted) it some h = absurd (never (is_list (shape_after (shape.Map sorted) (on_map sorted it))) (map_no_list sorted it) h)
+
+-- ---- every row is shown
+
+shows_over : (it : Step) (f : RowForm) → IsListStep it → ((row : Item) → shows f row ≡ true) → (row : Item) → shows (form_over (family_of it) it f) row ≡ true
+shows_over (step.Plain Reverse) f ok all row = all row
+shows_over (step.Plain Unmodifiable) f ok all row = all row
+shows_over (step.Change Transform g) f ok all row = all row
+shows_over _ f ok all row = absurd ok
+
+shows_all : (world : World) (v : View) → IsMade world v → is_list (shape_at world v) ≡ true → (row : Item) → shows (form_of v) row ≡ true
+shows_all world (base b) made h row = refl
+shows_all world (over it v) made h row =
+    let below = list_below (shape_at world v) it made.0.given h in
+    shows_over it (form_of v) below.1 (shows_all world v made.1 below.0) row
+
+all_items : (f : RowForm) → ((row : Item) → shows f row ≡ true) → (rows : List Item) → map f.item (filter (shows f) rows) ≡ map f.item rows
+all_items f all rows = ap (map f.item) (ap (λ (q : Item → Bool). filter q rows) (λ i row. all row i) ∙ filter-all rows)
+
+-- ---- indexes from the front or from the back
+
+abbrev item_from : Bool → ℕ → ℕ → ℕ
+item_from turned size i = cond turned (size - 1 - i) i
+
+abbrev gap_from : Bool → ℕ → ℕ → ℕ
+gap_from turned size i = cond turned (size - i) i
+
+item_turned : (t : Bool) (size i : ℕ) → i < size → item_from t size (size - 1 - i) ≡ item_from (not t) size i
+item_turned true size i lt = omega arith
+item_turned false size i lt = refl
+
+gap_turned : (t : Bool) (size i : ℕ) → i ≤ size → gap_from t size (size - i) ≡ gap_from (not t) size i
+gap_turned true size i le = omega arith
+gap_turned false size i le = refl
+
+item_over : (it : Step) (v : View) (size i : ℕ) → IsListStep it → i < size → ((j : ℕ) → j < size → item_index v size j ≡ item_from (form_of v).turned size j)
+    → item_index (over it v) size i ≡ item_from (form_of (over it v)).turned size i
+item_over (step.Plain Reverse) v size i ok lt is = is (size - 1 - i) (omega arith) ∙ item_turned (form_of v).turned size i lt
+item_over (step.Plain Unmodifiable) v size i ok lt is = is i lt
+item_over (step.Change Transform f) v size i ok lt is = is i lt
+item_over _ v size i ok lt is = absurd ok
+
+gap_over : (it : Step) (v : View) (size i : ℕ) → IsListStep it → i ≤ size → ((j : ℕ) → j ≤ size → gap_index v size j ≡ gap_from (form_of v).turned size j)
+    → gap_index (over it v) size i ≡ gap_from (form_of (over it v)).turned size i
+gap_over (step.Plain Reverse) v size i ok le is = is (size - i) (omega arith) ∙ gap_turned (form_of v).turned size i le
+gap_over (step.Plain Unmodifiable) v size i ok le is = is i le
+gap_over (step.Change Transform f) v size i ok le is = is i le
+gap_over _ v size i ok le is = absurd ok
+
+item_at : (world : World) (v : View) → IsMade world v → is_list (shape_at world v) ≡ true → (size i : ℕ) → i < size → item_index v size i ≡ item_from (form_of v).turned size i
+item_at world (base b) made h size i lt = refl
+item_at world (over it v) made h size i lt =
+    let below = list_below (shape_at world v) it made.0.given h in
+    item_over it v size i below.1 lt (item_at world v made.1 below.0 size)
+
+gap_at : (world : World) (v : View) → IsMade world v → is_list (shape_at world v) ≡ true → (size i : ℕ) → i ≤ size → gap_index v size i ≡ gap_from (form_of v).turned size i
+gap_at world (base b) made h size i le = refl
+gap_at world (over it v) made h size i le =
+    let below = list_below (shape_at world v) it made.0.given h in
+    gap_over it v size i below.1 le (gap_at world v made.1 below.0 size)
+
+-- ---- items
+
+slice_get-reverse : {X : Type 0} (xs : List X) (i : ℕ) → i < length xs → slice_get (reverse xs) i ≡ slice_get xs (length xs - 1 - i)
+slice_get-reverse [] i lt = absurd (omega arith)
+slice_get-reverse (x ∷ xs) i lt =
+    slice_get-get_or (reverse (x ∷ xs)) i x (omega (arith, length-reverse (x ∷ xs)))
+    ∙ ap Some (get_or-reverse (x ∷ xs) i x lt)
+    ∙ sym (slice_get-get_or (x ∷ xs) (length (x ∷ xs) - 1 - i) x (omega arith))
+
+item_in : (t : Bool) (f : Item → Item) (rows : List Item) (i : ℕ) → i < length rows → slice_get (turned_if t (map f rows)) i ≡ option_map f (slice_get rows (item_from t (length rows) i))
+item_in true f rows i lt =
+    slice_get-reverse (map f rows) i (omega (arith, length-map rows f))
+    ∙ ap (λ n. slice_get (map f rows) (n - 1 - i)) (length-map rows f) ∙ slice_get-map f rows (length rows - 1 - i)
+item_in false f rows i lt = slice_get-map f rows i
+
+pub item_index_law : (world : World) (v : View) (i : ℕ) → IsMade world v → is_list (shape_at world v) ≡ true → i < length (base_at world (base_under v)).rows
+    → slice_get (shown world v) i ≡ option_map (form_of v).item (slice_get (base_at world (base_under v)).rows (item_index v (length (base_at world (base_under v)).rows) i))
+item_index_law world v i made h lt =
+    let f : RowForm = form_of v in
+    let rows : List Item = (base_at world (base_under v)).rows in
+    ap (λ is. slice_get is i) (shown_law world v ∙ ap (turned_if f.turned) (all_items f (shows_all world v made h) rows))
+    ∙ item_in f.turned f.item rows i lt
+    ∙ ap (λ n. option_map f.item (slice_get rows n)) (sym (item_at world v made h (length rows) i lt))
+
+-- ---- gaps
+
+map-insert : {X Y : Type 0} (f : X → Y) (xs : List X) (i : ℕ) (x : X) → map f (insert xs i x) ≡ insert (map f xs) i (f x)
+map-insert f xs i x = map-append f (take i xs) (x ∷ drop i xs) ∙ (λ j. sym (take-map f i xs) j ++ f x ∷ sym (drop-map f i xs) j)
+
+-- a list with an element in a gap, turned round
+reverse-insert : {X : Type 0} (xs : List X) (i : ℕ) (x : X) → i ≤ length xs → reverse (insert xs (length xs - i) x) ≡ insert (reverse xs) i x
+reverse-insert xs i x le =
+    let front = take (length xs - i) xs in
+    let back = drop (length xs - i) xs in
+    let size : length (reverse back) ≡ i = length-reverse back ∙ length-drop (length xs - i) xs ∙ (omega arith) in
+    let parts : reverse xs ≡ reverse back ++ reverse front = ap reverse (sym (take-append-drop (length xs - i) xs)) ∙ reverse-append front back in
+    reverse-append front (x ∷ back) ∙ ap (λ ys. ys ++ reverse front) (reverse-append (x ∷ []) back) ∙ append_assoc (reverse back) (x ∷ []) (reverse front)
+    ∙ (λ j. sym (ap (take i) parts ∙ take_at (reverse back) (reverse front) i size) j ++ x ∷ sym (ap (drop i) parts ∙ drop_at (reverse back) (reverse front) i size) j)
+
+gap_in : (t : Bool) (items : List Item) (i : ℕ) (item : Item) → i ≤ length items → turned_if t (insert items (gap_from t (length items) i) item) ≡ insert (turned_if t items) i item
+gap_in true items i item le = reverse-insert items i item le
+gap_in false items i item le = refl
+
+pub gap_index_law : (world : World) (v : View) (item row : Item) (rows : List Item) (i : ℕ) → IsMade world v → is_list (shape_at world v) ≡ true → (flags_at world v).add ≡ true → lift v item ≡ Some row → i ≤ length rows
+    → shown_by (form_of v) (insert rows (gap_index v (length rows) i) row) ≡ insert (shown_by (form_of v) rows) i item
+gap_index_law world v item row rows i made h ok is le =
+    let f : RowForm = form_of v in
+    let all = shows_all world v made h in
+    let k : ℕ = gap_from f.turned (length rows) i in
+    let s : IsShownAs f row item = lift_law world v item row ok is in
+    ap (λ n. shown_by f (insert rows n row)) (gap_at world v made h (length rows) i le)
+    ∙ ap (turned_if f.turned) (all_items f all (insert rows k row) ∙ map-insert f.item rows k row ∙ ap (insert (map f.item rows) k) s.same)
+    ∙ ap (λ n. turned_if f.turned (insert (map f.item rows) (gap_from f.turned n i) item)) (sym (length-map rows f.item))
+    ∙ gap_in f.turned (map f.item rows) i item (omega (arith, length-map rows f.item, le))
+    ∙ ap (λ is. insert (turned_if f.turned is) i item) (sym (all_items f all rows))

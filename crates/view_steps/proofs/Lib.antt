@@ -1,0 +1,10 @@
+pub mod ListLemmas
+pub mod WindowLemmas
+pub mod LineLemmas
+pub mod LabelLemmas
+pub mod StandLemmas
+pub mod BaseLemmas
+pub mod MadeLemmas
+pub mod RowLemmas
+pub mod EditLemmas
+pub mod IndexLemmas

@@ -1,0 +1,94 @@
+-- Places in a base: those in which a view's candidates stand, in walk order, and what the view has at a place.
+use Rattle.std.specs.Prelude.{◌≡◌, ℕ, ◌+◌, Bool, true, false, ◌&&◌, cond, List, [], ◌∷◌, map, filter, reverse, find, slice_get, Option, None, Some, option_map}
+use Rattle.std.specs.List.{IsDistinct}
+use Rattle.elem.specs.Elements.{same}
+use Rattle.view_steps.specs.declared.items.Item.{Item}
+use Rattle.view_steps.specs.declared.steps.Step.{Step}
+use Rattle.view_steps.specs.declared.step_table.Family.{Family}
+use Rattle.view_steps.specs.declared.step_table.Family.TheVariants.{Same, Changed, Turned, Hidden, Cut}
+use Rattle.view_steps.specs.declared.places.Found.{Found}
+use Rattle.view_steps.specs.declared.places.Place.{Place}
+use Rattle.view_steps.specs.declared.places.Place.TheVariants.{Index, Key}
+use Rattle.view_steps.specs.Items.{key_of}
+use Rattle.view_steps.specs.Kinds.{shape_of_kind}
+use Rattle.view_steps.specs.Shapes.{is_keyed}
+use Rattle.view_steps.specs.Steps.{family_of, item_of, passes}
+use Rattle.view_steps.specs.Views.{Base, World, View, base, over, base_at, Candidate}
+
+-- ---- a base
+
+abbrev pub key_place : Item → Place
+key_place row = Key (key_of row)
+
+-- one place for each row, the first of which has the index n
+abbrev pub numbered : ℕ → List Item → List Place
+numbered n [] = []
+numbered n (row ∷ rows) = Index n ∷ numbered (n + 1) rows
+
+-- the places of the rows of a base: their keys where it goes by key, and else their indexes
+abbrev pub places_of : Base → List Place
+places_of it = cond (is_keyed (shape_of_kind it.kind)) (map key_place it.rows) (numbered 0 it.rows)
+
+-- the row at a place
+abbrev pub row_at : List Item → Place → Option Item
+row_at rows (Index i) = slice_get rows i
+row_at rows (Key k) = find (λ row. same k (key_of row)) rows
+
+abbrev pub found_row : Item → Found
+found_row row = record { item = row; seen = true }
+
+-- no two rows of a base that goes by key have the same key
+abbrev pub HasKeys : Base → Type 0
+HasKeys it = is_keyed (shape_of_kind it.kind) ≡ true → IsDistinct same (map key_of it.rows)
+
+-- ---- a view
+
+-- what a candidate shows
+abbrev pub found_in : Candidate → Found
+found_in c = record { item = c.item; seen = c.seen }
+
+abbrev pub found_changed : (Item → Item) → Found → Found
+found_changed f d = record { item = f d.item; seen = d.seen }
+
+abbrev pub found_if : (Item → Bool) → Found → Found
+found_if p d = record { item = d.item; seen = d.seen && p d.item }
+
+-- what a view by a step has at a place, by what the view below has there
+abbrev pub found_over : Family → Step → Found → Found
+found_over Same step d = d
+found_over Changed step d = found_changed (item_of step) d
+found_over Turned step d = d
+found_over Hidden step d = found_if (passes step) d
+found_over Cut step d = found_changed (item_of step) d
+
+-- what a view has at a place
+abbrev pub show : World → View → Place → Option Found
+show world (base b) p = option_map found_row (row_at (base_at world b).rows p)
+show world (over step v) p = option_map (found_over (family_of step) step) (show world v p)
+
+abbrev pub passes_at : Step → Option Found → Bool
+passes_at step None = false
+passes_at step (Some d) = passes step d.item
+
+-- the places of a step over a view, by those of the view and what it has there
+abbrev pub places_over : Family → Step → (Place → Option Found) → List Place → List Place
+places_over Same step at ps = ps
+places_over Changed step at ps = ps
+places_over Turned step at ps = reverse ps
+places_over Hidden step at ps = ps
+places_over Cut step at ps = filter (λ p. passes_at step (at p)) ps
+
+-- the places of a view's candidates, in the order of its walk
+abbrev pub places : World → View → List Place
+places world (base b) = places_of (base_at world b)
+places world (over step v) = places_over (family_of step) step (show world v) (places world v)
+
+-- a place in which candidate i of a view stands
+abbrev pub StandsFor : World → View → Place → ℕ → Type 0
+StandsFor world v p i = slice_get (places world v) i ≡ Some p
+
+-- the numbers of the one row at a place
+pub record IsRowAt (rows : List Item) (p : Place) (numbers : List ℕ) : Type 0 where
+  pub number : ℕ
+  pub only : numbers ≡ number ∷ []
+  pub row : slice_get rows number ≡ row_at rows p
