@@ -1,7 +1,7 @@
 -- Counts of a node's edges, where an edge is put in or taken out. No map is named here.
-use Rattle.std.proofs.Common.{◌≡◌, ℕ, suc, ◌+◌, ◌-◌, ◌≤◌, ◌<◌, Bool, true, false, cond, List, [], ◌∷◌, ◌++◌, length, Option, Some, None, refl, sym, ap, ◌∙◌, subst, arith, length-append, append-nil}
-use Rattle.std.specs.Prelude.{IsSome, is_some}
-use Rattle.std.specs.List.{filter, AllByRecursion}
+use Rattle.std.proofs.Common.{◌≡◌, ℕ, ◌+◌, ◌-◌, ◌<◌, Bool, true, false, cond, List, ◌∷◌, ◌++◌, length, Option, Some, refl, sym, ap, ◌∙◌, subst, arith, length-append}
+use Rattle.std.specs.Prelude.{IsSome}
+use Rattle.std.specs.List.{filter}
 use Rattle.std.proofs.lemmas.List.Elements.{filter-append}
 use Rattle.elem.specs.declared.elements.Elem.{Elem}
 use Rattle.elem.specs.Elements.{same}
@@ -9,7 +9,7 @@ use Rattle.elem.specs.ElementLaws.{same-Decides, same_equiv}
 use Rattle.graph_base.specs.declared.degrees.Degrees.{Degrees}
 use Rattle.graph_base.specs.Edges.{Edge}
 use Rattle.graph_base.specs.Degrees.{out_of, into}
-use Rattle.graph_base.specs.Counted.{no_degrees, AreCounted}
+use Rattle.graph_base.specs.Counted.{AreCounted}
 use Rattle.graph_base.proofs.Cuts.{all_with, all_without, all_right, all_map}
 
 abbrev pub one : Bool → ℕ

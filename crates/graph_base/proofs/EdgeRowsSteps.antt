@@ -1,25 +1,23 @@
 -- Rows of edges: one put last, one taken out at a cut, one given another value. No map and no slab is named here.
-use Rattle.std.proofs.Common.{◌≡◌, ◌≢◌, ◌≤◌, ◌+◌, ℕ, zero, suc, Bool, true, false, cond, not, List, [], ◌∷◌, ◌++◌, map, length, Option, Some, None, refl, sym, ap, ◌∙◌, subst, arith, slice_get, length-append, append-nil, nat_eq}
-use Rattle.std.specs.List.{filter, flat_map, AllByRecursion, IsDistinct}
+use Rattle.std.proofs.Common.{◌≡◌, ◌≢◌, ◌≤◌, ℕ, suc, Bool, true, false, cond, List, [], ◌∷◌, ◌++◌, length, Option, Some, None, refl, sym, ap, ◌∙◌, subst, arith, slice_get, length-append, append-nil, nat_eq}
+use Rattle.std.specs.List.{filter, flat_map, IsDistinct}
 use Rattle.std.specs.Map.{keys_of}
 use Rattle.std.proofs.lemmas.Map.{NonePasses}
 use Rattle.std.proofs.lemmas.List.Elements.{filter-append}
 use Rattle.std.proofs.lemmas.List.Concat.{flat_map-append}
 use Rattle.std.proofs.lemmas.Bool.Decides.{Decides-eqb}
 use Rattle.elem.specs.declared.elements.Elem.{Elem}
-use Rattle.elem.specs.declared.elements.Elem.TheVariants.{Int}
 use Rattle.elem.specs.Elements.{same}
-use Rattle.elem.specs.ElementLaws.{same-Decides}
 use Rattle.elem.specs.Rows.{first_key}
 use Rattle.linked_base.proofs.KeyedLemmas.{distinct_without}
 use Rattle.mm_base.specs.PairRows.{Row}
 use Rattle.graph_base.specs.declared.edge_row.EdgeRow.{EdgeRow}
-use Rattle.graph_base.specs.Edges.{Edge, joins}
+use Rattle.graph_base.specs.Edges.{joins}
 use Rattle.graph_base.specs.Ends.{Ends, same_ends, ends}
 use Rattle.graph_base.specs.Numbers.{number}
 use Rattle.graph_base.specs.EdgeRows.{Numbered, edge_of, halves_of, rows_joining, AreEdges}
-use Rattle.graph_base.proofs.Cuts.{nothing, nth_cut, all_join, all_without, all_with, all_left, all_right}
-use Rattle.graph_base.proofs.EndsLemmas.{ends_join, same_ends_of, alike}
+use Rattle.graph_base.proofs.Cuts.{nothing, nth_cut, all_join, all_without, all_with, all_right}
+use Rattle.graph_base.proofs.EndsLemmas.{ends_join, alike}
 use Rattle.graph_base.proofs.NumberLemmas.{number_differs}
 
 -- the first key where one row of two is under the same key

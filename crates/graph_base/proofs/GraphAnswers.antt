@@ -1,12 +1,12 @@
 -- What a graph's tests and flags tell.
-use Rattle.std.proofs.Common.{◌≡◌, ℕ, ◌+◌, ◌≤◌, Bool, true, false, cond, not, List, length, Option, Some, None, refl, sym, ap, ◌∙◌, subst, arith}
-use Rattle.std.specs.Prelude.{IsSome, is_some, OnSome, IfNone, ◌&&◌}
+use Rattle.std.proofs.Common.{◌≡◌, ℕ, ◌+◌, ◌≤◌, Bool, true, false, cond, not, List, length, Option, Some, None, refl, sym, ap, ◌∙◌, arith}
+use Rattle.std.specs.Prelude.{is_some, OnSome, IfNone, ◌&&◌}
 use Rattle.std.specs.Map.{keys_of}
 use Rattle.elem.specs.declared.elements.Elem.{Elem}
 use Rattle.elem.specs.Elements.{same}
 use Rattle.elem.specs.ElementLaws.{same-Decides}
 use Rattle.elem.specs.Keyed.{value_at}
-use Rattle.mm_base.specs.KeyedRows.{contains, with_key}
+use Rattle.mm_base.specs.KeyedRows.{contains}
 use Rattle.mm_base.proofs.KeyedRowsLemmas.{contains_keys, not_not}
 use Rattle.graph_base.specs.declared.degrees.Degrees.{Degrees}
 use Rattle.graph_base.specs.Edges.{Edge}

@@ -1,9 +1,9 @@
 -- A graph's nodes, edges and counts after each call.
-use Rattle.std.proofs.Common.{◌≡◌, ◌⊎◌, inl, inr, ℕ, zero, suc, ◌+◌, ◌≤◌, ◌<◌, Bool, true, false, cond, not, List, [], ◌∷◌, ◌++◌, map, length, Option, Some, None, refl, sym, ap, ◌∙◌, subst, arith, slice_get, length-append}
-use Rattle.std.specs.Prelude.{IsSome, is_some, ◌||◌, ◌&&◌}
+use Rattle.std.proofs.Common.{◌≡◌, ◌⊎◌, inl, inr, ℕ, zero, suc, ◌+◌, ◌≤◌, Bool, true, false, cond, not, List, [], ◌∷◌, ◌++◌, length, Option, Some, None, refl, sym, ap, ◌∙◌, subst, arith, slice_get, length-append}
+use Rattle.std.specs.Prelude.{IsSome, ◌||◌, ◌&&◌}
 use Rattle.std.specs.Option.{option_map}
 use Rattle.std.specs.List.{filter, IsDistinct, AllByRecursion}
-use Rattle.std.specs.Map.{lookup, remove_entry, keys_of}
+use Rattle.std.specs.Map.{keys_of}
 use Rattle.std.proofs.lemmas.Map.{lookup-remove_entry}
 use Rattle.elem.specs.declared.elements.Elem.{Elem}
 use Rattle.elem.specs.Elements.{same}
@@ -12,15 +12,14 @@ use Rattle.elem.specs.Keyed.{value_at, without, HasDistinctKeys}
 use Rattle.mm_base.specs.KeyedRows.{contains, with_key}
 use Rattle.mm_base.proofs.KeyedRowsLemmas.{contains_keys}
 use Rattle.graph_base.specs.declared.degrees.Degrees.{Degrees}
-use Rattle.graph_base.specs.Edges.{Edge, joins, joining, edge_joining, value_joining, with_edge, without_edge, is_at, incident, without_edges_at}
+use Rattle.graph_base.specs.Edges.{Edge, joins, joining, edge_joining, value_joining, with_edge, is_at, without_edges_at}
 use Rattle.graph_base.specs.Degrees.{out_of, into}
-use Rattle.graph_base.specs.Graphs.{Graph, AreApart, HasEnds, HasNoLoop, IsValid, without_node}
-use Rattle.graph_base.specs.Counted.{no_degrees, with_new, AreCounted, AreGraph}
-use Rattle.graph_base.proofs.Cuts.{nth_cut, none_pass, all_with, all_without, all_right, all_map}
+use Rattle.graph_base.specs.Graphs.{AreApart, HasEnds, HasNoLoop, IsValid, without_node}
+use Rattle.graph_base.specs.Counted.{AreCounted, AreGraph}
+use Rattle.graph_base.proofs.Cuts.{nth_cut, all_with, all_without, all_right, all_map}
 use Rattle.graph_base.proofs.EndsLemmas.{or_parts, and_parts}
 use Rattle.graph_base.proofs.EdgesLemmas.{with_there, none_before}
 use Rattle.graph_base.proofs.CountedLemmas.{out_cut, into_cut}
-use Rattle.graph_base.proofs.GraphSteps.{filter_le, none_at}
 
 pub length_keys : {V : Type 0} (rows : List (Elem × V)) → length (keys_of rows) ≡ length rows
 length_keys [] = refl

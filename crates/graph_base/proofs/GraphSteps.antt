@@ -1,7 +1,7 @@
 -- Nodes and edges of a graph together, where a node or an edge is put in or taken out.
-use Rattle.std.proofs.Common.{◌≡◌, ℕ, zero, suc, ◌+◌, ◌≤◌, ◌<◌, Bool, true, false, cond, not, List, [], ◌∷◌, ◌++◌, map, length, Option, Some, None, refl, sym, ap, ◌∙◌, subst, arith, slice_get, append-nil, length-append}
+use Rattle.std.proofs.Common.{◌≡◌, suc, ◌+◌, ◌≤◌, Bool, true, false, cond, not, List, [], ◌∷◌, ◌++◌, length, Option, Some, None, refl, sym, ap, ◌∙◌, subst, arith, slice_get, append-nil}
 use Rattle.std.specs.Prelude.{IsSome, is_some, ◌||◌, ◌&&◌}
-use Rattle.std.specs.List.{filter, IsDistinct, AllByRecursion}
+use Rattle.std.specs.List.{filter, AllByRecursion}
 use Rattle.std.specs.Map.{lookup, keys_of}
 use Rattle.std.proofs.lemmas.Map.{NonePasses, none_passes_from_lookup}
 use Rattle.std.proofs.lemmas.List.Elements.{filter-append}
@@ -11,16 +11,15 @@ use Rattle.elem.specs.ElementLaws.{same-Decides, same_equiv}
 use Rattle.elem.specs.Keyed.{value_at}
 use Rattle.linked_base.proofs.KeyedLemmas.{lookup_with}
 use Rattle.mm_base.specs.KeyedRows.{contains, with_key}
-use Rattle.mm_base.proofs.KeyedRowsLemmas.{contains_keys, keys_last, none_of, not_not}
+use Rattle.mm_base.proofs.KeyedRowsLemmas.{contains_keys, keys_last, not_not}
 use Rattle.graph_base.specs.declared.degrees.Degrees.{Degrees}
-use Rattle.graph_base.specs.Edges.{Edge, joins, joining, edge_joining, with_edge, without_edge, is_at, incident, without_edges_at}
+use Rattle.graph_base.specs.Edges.{Edge, joins, joining, edge_joining, without_edge, is_at, incident, without_edges_at}
 use Rattle.graph_base.specs.Degrees.{out_of, into}
-use Rattle.graph_base.specs.Graphs.{AreApart, HasNoLoop}
+use Rattle.graph_base.specs.Graphs.{AreApart}
 use Rattle.graph_base.specs.Counted.{no_degrees, with_new, AreCounted}
 use Rattle.graph_base.proofs.Cuts.{nth_cut, none_pass, nothing, all_map}
 use Rattle.graph_base.proofs.CountedLemmas.{one, count_cut}
-use Rattle.graph_base.proofs.EndsLemmas.{ends_join, same_ends_equiv}
-use Rattle.graph_base.proofs.EdgesLemmas.{without_there, edge_there, edge_absent, without_absent, none_joining}
+use Rattle.graph_base.proofs.EdgesLemmas.{without_there, without_absent, none_joining}
 use Rattle.graph_base.proofs.NodesLemmas.{absent_key}
 
 -- edges whose ends are other nodes

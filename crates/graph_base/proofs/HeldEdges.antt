@@ -1,11 +1,10 @@
 -- What the fields of edge rows hold, and what each call makes of it.
-use Rattle.std.proofs.Common.{◌≡◌, ◌≢◌, ◌≤◌, ℕ, Bool, true, false, cond, List, [], ◌∷◌, ◌++◌, map, length, Option, Some, None, refl, sym, ap, ◌∙◌, subst, arith, slice_get, append_assoc}
+use Rattle.std.proofs.Common.{◌≡◌, ◌≢◌, ◌≤◌, ℕ, Bool, true, false, cond, List, [], ◌∷◌, ◌++◌, map, length, Option, Some, None, refl, sym, ap, ◌∙◌, subst, arith}
 use Rattle.std.specs.Prelude.{IsSome}
-use Rattle.std.specs.List.{filter, flat_map, IsDistinct}
+use Rattle.std.specs.List.{flat_map, IsDistinct}
 use Rattle.std.specs.Map.{lookup, remove_entry, set_value, keys_of}
 use Rattle.std.proofs.lemmas.Map.{NonePasses}
 use Rattle.std.proofs.lemmas.List.{map-append, length-map}
-use Rattle.std.proofs.lemmas.Option.{slice_get-map}
 use Rattle.elem.specs.declared.elements.Elem.{Elem}
 use Rattle.elem.specs.Elements.{same}
 use Rattle.elem.specs.ElementLaws.{same_equiv}
@@ -14,10 +13,10 @@ use Rattle.elem.proofs.RowsLemmas.{lookup_at, remove_at, set_value_at}
 use Rattle.linked_base.proofs.KeyedLemmas.{distinct_without, none_left}
 use Rattle.mm_base.specs.PairRows.{Row}
 use Rattle.graph_base.specs.declared.edge_row.EdgeRow.{EdgeRow}
-use Rattle.graph_base.specs.Edges.{Edge, joins, joining, edge_joining, with_edge, without_edge}
+use Rattle.graph_base.specs.Edges.{joins, joining, edge_joining, with_edge, without_edge}
 use Rattle.graph_base.specs.Ends.{Ends, same_ends, ends}
 use Rattle.graph_base.specs.Numbers.{number}
-use Rattle.graph_base.specs.EdgeRows.{Numbered, edge_of, edges_of, halves_between, halves_of, rows_joining, AreEdges}
+use Rattle.graph_base.specs.EdgeRows.{Numbered, edge_of, edges_of, halves_of, rows_joining, AreEdges}
 use Rattle.graph_base.proofs.Cuts.{filter-map, all_right}
 use Rattle.graph_base.proofs.EndsLemmas.{same_ends_of, same_ends-Decides}
 use Rattle.graph_base.proofs.EdgesLemmas.{with_new, with_there, without_there, without_absent, edge_there, edge_absent, none_before, none_joining}

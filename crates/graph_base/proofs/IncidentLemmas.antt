@@ -1,6 +1,6 @@
 -- The edges at a node, by their halves.
 use Rattle.std.proofs.Common.{◌≡◌, ℕ, Bool, true, false, cond, List, [], ◌∷◌, ◌++◌, map, length, Option, Some, None, refl, sym, ap, ◌∙◌, subst, slice_get}
-use Rattle.std.specs.Prelude.{IsSome, ◌||◌, nat_eq}
+use Rattle.std.specs.Prelude.{IsSome, ◌||◌}
 use Rattle.std.specs.Option.{option_map}
 use Rattle.std.specs.List.{filter, flat_map, IsDistinct}
 use Rattle.std.specs.Map.{lookup, keys_of}

@@ -1,5 +1,5 @@
 -- The number of a place, as an element.
-use Rattle.std.specs.Prelude.{ℕ, ◌-◌, ◌^◌, cond, nat_lt, pos, negsuc}
+use Rattle.std.specs.Prelude.{ℕ, ◌-◌, cond, nat_lt, pos, negsuc}
 use Rattle.elem.specs.declared.elements.Elem.{Elem}
 use Rattle.elem.specs.declared.elements.Elem.TheVariants.{Int}
 

@@ -8,6 +8,8 @@ mod edge_rows;
 mod faults;
 mod graph_edits;
 mod halves;
+#[cfg(test)]
+mod tests;
 mod value_graph_rows;
 mod ways;
 

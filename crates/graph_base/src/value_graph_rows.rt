@@ -218,12 +218,7 @@ impl ValueGraphRows {
     }
 
     /// Removes the edge between two nodes, and tells its value. The nodes stay.
-    pub fn remove_edge<L: Ledger>(
-        &mut self,
-        a: Elem,
-        b: Elem,
-        steps: &mut Steps<L>,
-    ) -> Option<Elem>
+    pub fn remove_edge<L: Ledger>(&mut self, a: Elem, b: Elem, steps: &mut Steps<L>) -> Option<Elem>
         ensures value { result ≡ value_joining self.old.directed a b self.old.edges }
         ensures graph { self.new ≡ record self.old { edges = without_edge self.old.directed a b self.old.edges } }
         ensures step { steps.new ≡ steps.old + 1 }

@@ -1,4 +1,4 @@
-use Rattle.std.proofs.Common.{◌+◌, [], refl, sym, ap, ◌∙◌, subst, append-nil}
+use Rattle.std.proofs.Common.{◌+◌, [], refl, sym, ◌∙◌, subst, append-nil}
 use Rattle.elem.specs.Keyed.{value_at}
 use Rattle.graph_base.specs.Counted.{AreCounted}
 use Rattle.graph_base.proofs.CountedLemmas.{counted_more}

@@ -1,4 +1,4 @@
-use Rattle.std.proofs.Common.{◌-◌, refl, sym, ap, ◌∙◌, subst, arith}
+use Rattle.std.proofs.Common.{◌-◌, refl, sym, ◌∙◌, subst, arith}
 use Rattle.std.specs.Prelude.{IsSome}
 use Rattle.elem.specs.Keyed.{value_at}
 use Rattle.graph_base.proofs.CountedLemmas.{counted_less, ends_there, leaves_some, enters_between, there}
@@ -27,7 +27,7 @@ overflow_sub-between c =
     let r = c.requires in
     let d = c.unwrap-before.result in
     let some = enters_between r.0 c.args.from.now c.args.to.now r.1 r.2 (value_at c.args.nodes.now) (value_at c.write_degrees.new.nodes) d (record { leaving = d.leaving - 1; entering = d.entering }) (sym c.probe.ensures ∙ c.unwrap-before.ensures) c.write_degrees.ensures.found refl refl r.3 c.unwrap-between.result
-        (sym c.probe-2.ensures ∙ c.unwrap-between.ensures) in
+    (sym c.probe-2.ensures ∙ c.unwrap-between.ensures) in
     omega arith
 
 pub returns-clause-counted : goal.returns-clause-counted

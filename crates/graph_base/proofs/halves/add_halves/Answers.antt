@@ -1,4 +1,4 @@
-use Rattle.std.proofs.Common.{sym, ap, ◌∙◌}
+use Rattle.std.proofs.Common.{◌∙◌}
 use Rattle.graph_base.proofs.HalvesLemmas.{put_live, put_back}
 use Rattle.graph_base.proofs.halves.add_halves.Goals as goal
 

@@ -1,4 +1,4 @@
-use Rattle.std.proofs.Common.{sym, ap, ◌∙◌}
+use Rattle.std.proofs.Common.{sym, ◌∙◌}
 use Rattle.graph_base.proofs.HalvesLemmas.{first_live, without_loop, second_live, without_both}
 use Rattle.graph_base.proofs.halves.drop_halves.Goals as goal
 

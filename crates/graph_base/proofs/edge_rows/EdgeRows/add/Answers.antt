@@ -1,4 +1,4 @@
-use Rattle.std.proofs.Common.{◌≡◌, ℕ, Some, None, refl, sym, ap, ◌∙◌, subst, append-nil, ◌++◌, []}
+use Rattle.std.proofs.Common.{Some, refl, sym, ap, ◌∙◌, subst, append-nil, ◌++◌, []}
 use Rattle.std.specs.HashMap as hash
 use Rattle.std.proofs.lemmas.Map.{NonePasses, lookup-none}
 use Rattle.slab.specs.Slab.{get, Updates}

@@ -1,8 +1,8 @@
-use Rattle.std.proofs.Common.{◌≡◌, cond, None, refl, sym, ap, ◌∙◌, subst}
+use Rattle.std.proofs.Common.{refl, sym, ap, ◌∙◌, subst}
 use Rattle.std.specs.Prelude.{IsSome}
 use Rattle.std.specs.HashMap as hash
 use Rattle.slab.specs.Slab.{get}
-use Rattle.graph_base.specs.Ends.{Ends, same_ends, ends}
+use Rattle.graph_base.specs.Ends.{same_ends, ends}
 use Rattle.graph_base.specs.Edges.{edge_joining, without_edge}
 use Rattle.graph_base.specs.EdgeRows.{EdgeList, AreEdges, edges_of}
 use Rattle.graph_base.proofs.HeldEdges.{no_edge, all_stay, taken_none, row_there, its_edge, its_halves, place_taken, removed, removed_edges}

@@ -1,4 +1,4 @@
-use Rattle.std.proofs.Common.{◌≡◌, true, false, not, sym, ap, ◌∙◌}
+use Rattle.std.proofs.Common.{not, sym, ap, ◌∙◌}
 use Rattle.std.specs.Prelude.{is_some, Ok, ◌&&◌}
 use Rattle.std.specs.Option.{option_map}
 use Rattle.mm_base.specs.KeyedRows.{contains}

@@ -1,13 +1,13 @@
-use Rattle.std.proofs.Common.{◌≡◌, ◌≤◌, false, not, length, sym, ap, ◌∙◌, subst, arith}
+use Rattle.std.proofs.Common.{length, sym, ap, ◌∙◌, subst, arith}
 use Rattle.std.specs.Map.{keys_of}
 use Rattle.elem.specs.Keyed.{value_at}
 use Rattle.mm_base.specs.KeyedRows.{with_key}
 use Rattle.mm_base.proofs.KeyedRowsLemmas.{contains_keys}
-use Rattle.mm_base.proofs.Results.{on_ok_of, on_err_of}
+use Rattle.mm_base.proofs.Results.{on_ok_of}
 use Rattle.graph_base.specs.EdgeRows.{EdgeList}
 use Rattle.graph_base.specs.Edges.{with_edge}
 use Rattle.graph_base.specs.Graphs.{Graph, size, HasNoLoop}
-use Rattle.graph_base.specs.Counted.{AreCounted, AreGraph}
+use Rattle.graph_base.specs.Counted.{AreCounted}
 use Rattle.graph_base.proofs.GraphLemmas.{with_key_le, with_key_there, with_edge_le, no_loop_with, replaced_counted, both_there}
 use Rattle.graph_base.proofs.GraphAnswers.{on_some_of, if_none_of, refused_loop, no_loop, allowed, small_graph}
 use Rattle.graph_base.proofs.value_graph_rows.ValueGraphRows.put_edge.Goals as goal

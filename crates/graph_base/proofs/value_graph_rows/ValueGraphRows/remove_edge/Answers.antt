@@ -1,4 +1,4 @@
-use Rattle.std.proofs.Common.{◌≡◌, Bool, false, not, length, sym, ap, ◌∙◌, subst, arith}
+use Rattle.std.proofs.Common.{◌≡◌, Bool, false, not, length, sym, ap, subst, arith}
 use Rattle.graph_base.specs.EdgeRows.{EdgeList}
 use Rattle.graph_base.specs.Edges.{Edge, joins}
 use Rattle.graph_base.specs.Graphs.{HasNoLoop}
