@@ -2,15 +2,14 @@
 use Rattle.std.proofs.Common.{◌≡◌, Bool, true, false, cond, List, [], ◌∷◌, ◌++◌, Option, Some, None, refl, sym, ap, ◌∙◌, subst, append_assoc, append-nil}
 use Rattle.std.specs.List.{filter, AllByRecursion}
 use Rattle.std.proofs.lemmas.List.Elements.{filter-append}
-use Rattle.std.proofs.lemmas.Map.{NonePasses}
 use Rattle.elem.specs.declared.elements.Elem.{Elem}
 use Rattle.elem.specs.Elements.{same}
-use Rattle.elem.specs.ElementLaws.{same-Decides, same_equiv}
+use Rattle.elem.specs.ElementLaws.{same-Decides}
 use Rattle.elem.specs.Keyed.{value_at}
 use Rattle.elem.specs.Orders.{natural_before}
 use Rattle.elem.specs.OrderLaws.{natural_before_strict}
 use Rattle.elem.specs.Rows.{first_key, last_key, last_key_or}
-use Rattle.plain_base.specs.Sorted.{ComesFirst, IsInOrder, rows_above, rows_below}
+use Rattle.plain_base.specs.Sorted.{IsInOrder, rows_above, rows_below}
 use Rattle.plain_base.specs.TwoKeys.{group, beside, with_group}
 use Rattle.plain_base.specs.Groups.{own, with_own, flat, rows_in, IsGroup}
 use Rattle.plain_base.proofs.SortedCuts.{own_cut, absent_first}

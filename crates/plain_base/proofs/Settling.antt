@@ -1,6 +1,6 @@
 -- Groups after that of one key has changed: they are groups still, and their rows are those with the new group.
-use Rattle.std.proofs.Common.{◌≡◌, ℕ, suc, ◌+◌, ◌<◌, ◌≤◌, Bool, true, false, cond, List, [], ◌∷◌, ◌++◌, length, Option, Some, None, refl, sym, ap, ◌∙◌, subst, arith}
-use Rattle.std.specs.Prelude.{IsSome, is_some}
+use Rattle.std.proofs.Common.{◌≡◌, ℕ, suc, ◌+◌, ◌≤◌, Bool, true, false, cond, List, [], ◌∷◌, ◌++◌, length, Option, Some, None, refl, sym, ap, ◌∙◌, subst, arith}
+use Rattle.std.specs.Prelude.{IsSome}
 use Rattle.std.specs.List.{AllByRecursion}
 use Rattle.std.proofs.lemmas.Map.{length-set_value}
 use Rattle.elem.specs.declared.elements.Elem.{Elem}
@@ -13,7 +13,7 @@ use Rattle.plain_base.specs.Sorted.{IsInOrder, placed, rows_above, rows_below}
 use Rattle.plain_base.specs.SortedLaws.{placed-adds}
 use Rattle.plain_base.specs.TwoKeys.{group, HasBoth, without_group, without_both, with_both, with_group}
 use Rattle.plain_base.specs.Groups.{own, with_own, flat, rows_in, some_rows, IsGroup, AreGroups}
-use Rattle.plain_base.proofs.SortedCuts.{remove_absent, remove_cut, placed_cut, set_present, placed_in_order, without_in_order, with_in_order}
+use Rattle.plain_base.proofs.SortedCuts.{remove_absent, remove_cut, set_present, placed_in_order, without_in_order, with_in_order}
 use Rattle.plain_base.proofs.GroupsLemmas.{kept_groups, group-flat, flat-with_own, whole_rows}
 use Rattle.plain_base.proofs.TwoKeysLemmas.{group-with_group, length-with_group, added, removed, changed, others, group_gone, length-placed, length-without}
 

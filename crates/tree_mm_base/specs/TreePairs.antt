@@ -3,7 +3,6 @@ use Rattle.std.specs.Prelude.{ℕ, Bool, List, length, Option, is_some, slice_ge
 use Rattle.std.specs.Option.{option_map}
 use Rattle.std.specs.Map.{keys_of}
 use Rattle.elem.specs.declared.elements.Elem.{Elem}
-use Rattle.elem.specs.Elements.{same}
 use Rattle.elem.specs.Keyed.{value_at}
 use Rattle.plain_base.specs.TwoKeys.{group, HasBoth}
 

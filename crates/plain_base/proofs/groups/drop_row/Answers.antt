@@ -1,4 +1,4 @@
-use Rattle.std.proofs.Common.{◌≡◌, ◌≤◌, sym, ap, ◌∙◌, length, arith}
+use Rattle.std.proofs.Common.{◌≤◌, sym, ap, ◌∙◌, length, arith}
 use Rattle.elem.specs.Keyed.{value_at, without}
 use Rattle.elem.specs.OrderLaws.{natural_before_strict}
 use Rattle.plain_base.specs.Groups.{rows_in, with_own}

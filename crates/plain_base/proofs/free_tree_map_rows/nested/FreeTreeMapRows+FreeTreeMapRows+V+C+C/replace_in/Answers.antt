@@ -1,6 +1,6 @@
 use Rattle.std.proofs.Common.{subst, ap}
 use Rattle.std.specs.Option.{option_copied_mut}
-use Rattle.elem.specs.Keyed.{IsAbsent, IsPresent}
+use Rattle.elem.specs.Keyed.{IsPresent}
 use Rattle.plain_base.specs.Groups.{rows_in}
 use Rattle.plain_base.proofs.OrderLemmas.{found_at}
 use Rattle.plain_base.proofs.free_tree_map_rows.nested.FreeTreeMapRows+FreeTreeMapRows+V+C+C.replace_in.Goals as goal
