@@ -2,8 +2,8 @@ ghost use Rattle.std.specs.Prelude.{◌≡◌, [], length, IfOk};
 
 use elem::{Elem, Keyed, NoMemory};
 use linked_base::LinkedMap;
-use std::alloc::Global;
 use map_views::Kind;
+use std::alloc::Global;
 
 /// The rows of a base, in the type of its kind.
 #[derive(Drop)]

@@ -10,9 +10,9 @@ ghost use Rattle.map_views.specs.Views.{base, over, base_at, base_under, path, s
 use crate::{AnyRef, Base, BaseId, Node};
 use arrayvec::ArrayVec;
 use elem::NoMemory;
+use map_views::{Flags, Kind, Refusal, Shape, Step, apply, flags_after, shape_of_kind};
 use std::alloc::Global;
 use std::marker::Model;
-use map_views::{Flags, Kind, Refusal, Shape, Step, apply, flags_after, shape_of_kind};
 
 /// A node, as it is kept: the base of a number, or a step over the node of a number.
 #[derive(Clone, Copy, Debug)]

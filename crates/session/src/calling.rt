@@ -19,8 +19,8 @@ use crate::faults::ExecFault;
 use crate::replies::{Reply, refuse, say, say_number, say_optional, say_truth};
 use base_store::{AnyRef, Store};
 use elem::{Elem, Keyed, Sink, Steps};
-use std::sync::ledger::Ledger;
 use map_views::{Ask, Call, OnElement, OnPair, Refusal, fits, lacks, needs_of};
+use std::sync::ledger::Ledger;
 
 /// Executes a call on the view of a node, where its views have it and its flags allow it.
 pub fn call_on<S: Sink, L: Ledger>(

@@ -15,8 +15,8 @@ ghost use Rattle.map_views.specs.declared.refusals.Refusal.TheVariants as refusa
 use base_store::{AnyRef, Base, BaseId, Store};
 use elem::{Elem, Keyed, NoMemory, Steps};
 use linked_base::LinkedMap;
-use std::sync::ledger::Ledger;
 use map_views::Refusal;
+use std::sync::ledger::Ledger;
 
 /// The map under a node.
 pub fn map_at(store: &Store, n: AnyRef) -> &LinkedMap<Elem>

@@ -16,11 +16,11 @@ use crate::typing::{Purpose, is_typed};
 use base_store::{AnyRef, Store};
 use elem::{Sink, Steps, Word};
 use indexmap::IndexMap;
+use map_views::{Refusal, kind_named};
 use script_text::{KindName, Part};
 use std::alloc::Global;
 use std::marker::Model;
 use std::sync::ledger::Ledger;
-use map_views::{Refusal, kind_named};
 
 /// Bases, and names that stand for views of them.
 #[derive(Drop)]

@@ -15,9 +15,9 @@ use crate::replies::{Reply, refuse, say};
 use crate::typing::{Purpose, is_typed};
 use base_store::{AnyRef, Store};
 use elem::{Sink, Steps};
+use map_views::Refusal;
 use script_text::Part;
 use std::sync::ledger::Ledger;
-use map_views::Refusal;
 
 /// Evaluates the words behind a name: they lead to a view that is printed, or to a call on one.
 pub fn evaluate<S: Sink, L: Ledger>(

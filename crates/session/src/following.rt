@@ -8,8 +8,8 @@ ghost use Rattle.session.specs.Parts.{parts_in};
 
 use crate::typing::{Purpose, Typed, may_call, type_word};
 use base_store::{AnyRef, Store};
-use script_text::Part;
 use map_views::{Call, Refusal};
+use script_text::Part;
 
 /// The longest path of steps.
 const MOST_STEPS: usize = 32;

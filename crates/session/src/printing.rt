@@ -13,8 +13,8 @@ use crate::replies::Reply;
 use base_store::{AnyRef, Store};
 use elem::{Elem, Keyed, Sink, Steps, write_elem};
 use linked_base::LinkedMap;
-use std::sync::ledger::Ledger;
 use map_views::Shape;
+use std::sync::ledger::Ledger;
 
 /// Says the text of a view.
 pub fn print<S: Sink, L: Ledger>(

@@ -8,8 +8,8 @@ use crate::faults::ExecFault;
 use arrayvec::ArrayVec;
 use elem::{Elem, Sink, write_elem};
 use itoa::Buffer;
-use std::marker::Model;
 use map_views::Refusal;
+use std::marker::Model;
 
 /// A reply on its way to the sink: it goes there in one piece where it is short, in pieces of at most 4 KiB where it is
 /// not. After a failure of the sink nothing more goes there, until the next reply is begun.

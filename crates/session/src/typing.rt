@@ -7,10 +7,10 @@ ghost use Rattle.std.specs.Option.{option_map, option_and_then};
 ghost use Rattle.map_views.specs.declared.calls.Call.TheVariants as call;
 
 use elem::{Elem, read_elem};
-use script_text::Part;
 use map_views::{
     Action, Call, CallForm, OnElement, OnPair, Shape, Step, StepForm, apply, signature, sort_of,
 };
+use script_text::Part;
 
 /// What an expression is for.
 #[derive(Clone, Copy, Debug)]

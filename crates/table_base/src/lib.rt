@@ -9,9 +9,9 @@ mod linking;
 mod seeking;
 mod sides;
 mod spots;
-mod tree_cells;
 #[cfg(test)]
 mod tests;
+mod tree_cells;
 #[cfg(test)]
 mod tree_cells_tests;
 
