@@ -3,7 +3,6 @@ use Rattle.std.proofs.Common.{◌≡◌, ℕ, List, map, refl, ap, sym, ◌∙�
 use Rattle.std.specs.Prelude.{filter, slice_get, Option, Some, option_map}
 use Rattle.std.specs.List.{IsDistinct}
 use Rattle.std.proofs.lemmas.Simd.{map-map}
-use Rattle.elem.specs.declared.elements.Elem.{Elem}
 use Rattle.elem.specs.Elements.{same}
 use Rattle.view_steps.specs.declared.items.Item.{Item}
 use Rattle.view_steps.specs.declared.lanes.Lane.{Lane}
@@ -13,11 +12,10 @@ use Rattle.view_steps.specs.declared.places.Place.{Place}
 use Rattle.view_steps.specs.declared.places.Place.TheVariants.{Key}
 use Rattle.view_steps.specs.Items.{key_of}
 use Rattle.view_steps.specs.Kinds.{shape_of_kind}
-use Rattle.view_steps.specs.Orders.{lies_in}
 use Rattle.view_steps.specs.Shapes.{is_keyed}
 use Rattle.view_steps.specs.Views.{World, base, base_at, Base}
 use Rattle.view_steps.specs.Places.{found_row, places_of, key_place, numbered, row_at, HasKeys}
-use Rattle.view_steps.specs.Lanes.{takes, takes_at, turned_if, line, line_of}
+use Rattle.view_steps.specs.Lanes.{takes, takes_at, turned_if, line, line_of, takes_key}
 use Rattle.view_steps.proofs.ListLemmas.{filter-all, filter-map, filter-same}
 use Rattle.view_steps.proofs.LabelLemmas.{row_of_key}
 
@@ -54,19 +52,13 @@ line_of_list world b back h = ap (turned_if back) (filter-all (places_of (base_a
 
 -- ---- a lane looks at keys alone
 
-abbrev takes_key : Lane → Elem → Bool
-takes_key All k = true
-takes_key (OfKey l) k = same l k
-takes_key (Within order w) k = lies_in order w k
-takes_key Nothing k = false
-
-takes_by_key : (lane : Lane) (row : Item) → takes lane row ≡ takes_key lane (key_of row)
+pub takes_by_key : (lane : Lane) (row : Item) → takes lane row ≡ takes_key lane (key_of row)
 takes_by_key All row = refl
 takes_by_key (OfKey k) row = refl
 takes_by_key (Within order w) row = refl
 takes_by_key Nothing row = refl
 
-keys_taken : (lane : Lane) (rows : List Item) → map key_place (filter (takes lane) rows) ≡ map Key (filter (takes_key lane) (map key_of rows))
+pub keys_taken : (lane : Lane) (rows : List Item) → map key_place (filter (takes lane) rows) ≡ map Key (filter (takes_key lane) (map key_of rows))
 keys_taken lane rows =
     sym (map-map Key key_of (filter (takes lane) rows))
     ∙ ap (λ (q : Item → Bool). map Key (map key_of (filter q rows))) (λ i row. takes_by_key lane row i)

@@ -48,7 +48,7 @@ step_lift of below (step.Plain Unmodifiable) f row item under ok is s = absurd (
 step_lift of below (step.Change word f) g row item under ok is s = absurd (cc)
 
 -- what a step over a view allows, the view below it allows
-adds_below : (of : Shape) (below : Flags) (it : Step) → (flags_after of it below).add ≡ true → below.add ≡ true
+pub adds_below : (of : Shape) (below : Flags) (it : Step) → (flags_after of it below).add ≡ true → below.add ≡ true
 adds_below of below (step.Plain Reverse) ok = ok
 adds_below of below (step.Plain Descending) ok = ok
 adds_below of below (step.Filter word p) ok = ok

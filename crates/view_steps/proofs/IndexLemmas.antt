@@ -1,9 +1,9 @@
 -- A list view shows every row of its base, from the front or from the back.
 use Rattle.std.proofs.Common.{◌≡◌, ℕ, ◌-◌, ◌<◌, ◌≤◌, List, [], ◌∷◌, ◌++◌, length, map, reverse, take, drop, refl, ap, sym, ◌∙◌, arith, Bool, true, false, cond, not}
 use Rattle.std.specs.Prelude.{filter, slice_get, Some, IsSome, option_map}
-use Rattle.std.specs.List.{insert, take-map, drop-map}
-use Rattle.std.proofs.lemmas.List.{get_or-reverse, length-reverse, length-map, length-drop, take-append-drop, take_at, drop_at, reverse-append, map-append, append_assoc}
-use Rattle.std.proofs.lemmas.Option.{slice_get-get_or, slice_get-map}
+use Rattle.std.specs.List.{insert}
+use Rattle.std.proofs.lemmas.List.{length-reverse, length-map, length-drop, take-append-drop, take_at, drop_at, reverse-append, append_assoc}
+use Rattle.std.proofs.lemmas.Option.{slice_get-map}
 use Rattle.view_steps.specs.declared.items.Item.{Item}
 use Rattle.view_steps.specs.declared.shapes.RowSort.TheVariants as rows
 use Rattle.view_steps.specs.declared.shapes.Shape.{Shape}
@@ -16,22 +16,23 @@ use Rattle.view_steps.specs.declared.steps.Step.TheVariants as step
 use Rattle.view_steps.specs.Indexes.{is_list, item_index, gap_index}
 use Rattle.view_steps.specs.Lanes.{turned_if}
 use Rattle.view_steps.specs.RowForm.{RowForm, form_over, form_of, shows, shown_by, IsShownAs}
-use Rattle.view_steps.specs.Steps.{family_of, apply, on_list, on_coll, on_set, on_map}
+use Rattle.view_steps.specs.Steps.{family_of, apply, form_of_step, on_list, on_coll, on_set, on_map}
 use Rattle.view_steps.specs.KeptSteps.{IsMade}
 use Rattle.view_steps.specs.Views.{World, View, base, over, base_at, base_under, shape_at, shape_after, flags_at, shown, lift}
 use Rattle.view_steps.proofs.EditLemmas.{lift_law}
-use Rattle.view_steps.proofs.ListLemmas.{filter-all, never}
+use Rattle.view_steps.proofs.ListLemmas.{filter-all, never, map-insert}
 use Rattle.view_steps.proofs.RowLemmas.{shown_law}
+use Rattle.view_steps.proofs.TurnLemmas.{slice_get-reverse}
 
 -- ---- the steps between lists
 
-coll_no_list : (it : Step) → is_list (shape_after shape.Coll (on_coll it)) ≡ false
+coll_no_list : (it : Step) → is_list (shape_after shape.Coll (on_coll (form_of_step it))) ≡ false
 coll_no_list (step.Plain Unmodifiable) = refl
 coll_no_list (step.Change Transform f) = refl
 coll_no_list (step.Filter Filter p) = refl
 coll_no_list _ = refl
 
-set_no_list : (sorted : Bool) (it : Step) → is_list (shape_after (shape.Set sorted) (on_set sorted it)) ≡ false
+set_no_list : (sorted : Bool) (it : Step) → is_list (shape_after (shape.Set sorted) (on_set sorted (form_of_step it))) ≡ false
 set_no_list sorted (step.Change Transform f) = refl
 set_no_list sorted (step.Change AsMap f) = refl
 set_no_list sorted (step.Filter Filter p) = refl
@@ -42,7 +43,7 @@ set_no_list true (step.Within order w) = refl
 set_no_list false (step.Within order w) = refl
 set_no_list sorted _ = refl
 
-map_no_list : (sorted : Bool) (it : Step) → is_list (shape_after (shape.Map sorted) (on_map sorted it)) ≡ false
+map_no_list : (sorted : Bool) (it : Step) → is_list (shape_after (shape.Map sorted) (on_map sorted (form_of_step it))) ≡ false
 map_no_list true (step.Within order w) = refl
 map_no_list false (step.Within order w) = refl
 map_no_list true (step.Plain Descending) = refl
@@ -58,25 +59,25 @@ map_no_list sorted (step.Change TransformValues f) = refl
 map_no_list sorted _ = refl
 
 -- the steps from a list to a list
-abbrev IsListStep : Step → Type 0
+abbrev pub IsListStep : Step → Type 0
 IsListStep (step.Plain Reverse) = Unit {0}
 IsListStep (step.Plain Unmodifiable) = Unit {0}
 IsListStep (step.Change Transform f) = Unit {0}
 IsListStep _ = ⊥
 
-list_step : (it : Step) → IsSome (on_list it) → is_list (shape_after shape.List (on_list it)) ≡ true → IsListStep it
+list_step : (it : Step) → IsSome (on_list (form_of_step it)) → is_list (shape_after shape.List (on_list (form_of_step it))) ≡ true → IsListStep it
 list_step (step.Plain Reverse) some h = tt
 list_step (step.Plain Unmodifiable) some h = tt
 list_step (step.Change Transform f) some h = tt
 list_step (step.Filter Filter p) some h = absurd (cc)
 list_step _ some h = absurd (cc)
 
-list_below : (of : Shape) (it : Step) → IsSome (apply of it) → is_list (shape_after of (apply of it)) ≡ true → (is_list of ≡ true) × IsListStep it
+pub list_below : (of : Shape) (it : Step) → IsSome (apply of it) → is_list (shape_after of (apply of it)) ≡ true → (is_list of ≡ true) × IsListStep it
 list_below shape.List it some h = (refl, list_step it some h)
-list_below (shape.Set sorted) it some h = absurd (never (is_list (shape_after (shape.Set sorted) (on_set sorted it))) (set_no_list sorted it) h)
-list_below shape.Coll it some h = absurd (never (is_list (shape_after shape.Coll (on_coll it))) (coll_no_list it) h)
+list_below (shape.Set sorted) it some h = absurd (never (is_list (shape_after (shape.Set sorted) (on_set sorted (form_of_step it)))) (set_no_list sorted it) h)
+list_below shape.Coll it some h = absurd (never (is_list (shape_after shape.Coll (on_coll (form_of_step it)))) (coll_no_list it) h)
 list_below (shape.Rows rows.Entry) it some h = absurd (cc)
-list_below (shape.Map sorted) it some h = absurd (never (is_list (shape_after (shape.Map sorted) (on_map sorted it))) (map_no_list sorted it) h)
+list_below (shape.Map sorted) it some h = absurd (never (is_list (shape_after (shape.Map sorted) (on_map sorted (form_of_step it)))) (map_no_list sorted it) h)
 
 -- ---- every row is shown
 
@@ -86,7 +87,7 @@ shows_over (step.Plain Unmodifiable) f ok all row = all row
 shows_over (step.Change Transform g) f ok all row = all row
 shows_over _ f ok all row = absurd ok
 
-shows_all : (world : World) (v : View) → IsMade world v → is_list (shape_at world v) ≡ true → (row : Item) → shows (form_of v) row ≡ true
+pub shows_all : (world : World) (v : View) → IsMade world v → is_list (shape_at world v) ≡ true → (row : Item) → shows (form_of v) row ≡ true
 shows_all world (base b) made h row = refl
 shows_all world (over it v) made h row =
     let below = list_below (shape_at world v) it made.0.given h in
@@ -139,13 +140,6 @@ gap_at world (over it v) made h size i le =
 
 -- ---- items
 
-slice_get-reverse : {X : Type 0} (xs : List X) (i : ℕ) → i < length xs → slice_get (reverse xs) i ≡ slice_get xs (length xs - 1 - i)
-slice_get-reverse [] i lt = absurd (omega arith)
-slice_get-reverse (x ∷ xs) i lt =
-    slice_get-get_or (reverse (x ∷ xs)) i x (omega (arith, length-reverse (x ∷ xs)))
-    ∙ ap Some (get_or-reverse (x ∷ xs) i x lt)
-    ∙ sym (slice_get-get_or (x ∷ xs) (length (x ∷ xs) - 1 - i) x (omega arith))
-
 item_in : (t : Bool) (f : Item → Item) (rows : List Item) (i : ℕ) → i < length rows → slice_get (turned_if t (map f rows)) i ≡ option_map f (slice_get rows (item_from t (length rows) i))
 item_in true f rows i lt =
     slice_get-reverse (map f rows) i (omega (arith, length-map rows f))
@@ -162,9 +156,6 @@ item_index_law world v i made h lt =
     ∙ ap (λ n. option_map f.item (slice_get rows n)) (sym (item_at world v made h (length rows) i lt))
 
 -- ---- gaps
-
-map-insert : {X Y : Type 0} (f : X → Y) (xs : List X) (i : ℕ) (x : X) → map f (insert xs i x) ≡ insert (map f xs) i (f x)
-map-insert f xs i x = map-append f (take i xs) (x ∷ drop i xs) ∙ (λ j. sym (take-map f i xs) j ++ f x ∷ sym (drop-map f i xs) j)
 
 -- a list with an element in a gap, turned round
 reverse-insert : {X : Type 0} (xs : List X) (i : ℕ) (x : X) → i ≤ length xs → reverse (insert xs (length xs - i) x) ≡ insert (reverse xs) i x

@@ -48,7 +48,7 @@ other_key k [] i row all is = absurd (cc)
 other_key k (r ∷ rows) zero row all is = ap (λ x. same k (key_of x)) (sym (same_Some r row is)) ∙ all.0
 other_key k (r ∷ rows) (suc i) row all is = other_key k rows i row all.1 is
 
-turned_round : (a b : Elem) → same a b ≡ false → same b a ≡ false
+pub turned_round : (a b : Elem) → same a b ≡ false → same b a ≡ false
 turned_round a b h = by (same b a) refl
   where
     by : (t : Bool) → same b a ≡ t → t ≡ false
@@ -65,7 +65,7 @@ row_of_key (r ∷ rows) d zero row is =
 row_of_key (r ∷ rows) d (suc i) row is =
     ap (λ b. cond b (Some r) (find (λ x. same (key_of row) (key_of x)) rows)) (turned_round (key_of r) (key_of row) (other_key (key_of r) rows i row d.0 is)) ∙ row_of_key rows d.1 i row is
 
-found_of_rows : (n : ℕ) (rows : List Item) → map found_in (of_rows n rows) ≡ map found_row rows
+pub found_of_rows : (n : ℕ) (rows : List Item) → map found_in (of_rows n rows) ≡ map found_row rows
 found_of_rows n [] = refl
 found_of_rows n (row ∷ rows) = ap (λ ds. found_row row ∷ ds) (found_of_rows (n + 1) rows)
 

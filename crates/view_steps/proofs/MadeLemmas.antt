@@ -19,7 +19,7 @@ use Rattle.view_steps.specs.Lanes.{narrow, HasLane, IsStraight}
 use Rattle.view_steps.specs.Kinds.{shape_of_kind, order_of_kind}
 use Rattle.view_steps.specs.Orders.{upto, encloses, lies_in, same_order}
 use Rattle.view_steps.specs.Shapes.{is_keyed, is_sorted}
-use Rattle.view_steps.specs.Steps.{apply, on_list, on_set, on_coll, on_map}
+use Rattle.view_steps.specs.Steps.{apply, form_of_step, on_list, on_set, on_coll, on_map}
 use Rattle.view_steps.specs.KeptSteps.{order_at, window_at, kept, argument_refusal, path_refusal, first_refusal, step_refusal, longest_path, IsMade, IsStepOn, IsKept}
 use Rattle.view_steps.specs.Views.{World, View, base, over, base_at, shape_at, shape_after, base_under, path}
 use Rattle.view_steps.specs.declared.refusals.Refusal.{Refusal}
@@ -30,20 +30,20 @@ use Rattle.view_steps.proofs.WindowLemmas.{same_order-refl, encloses-chain, insi
 
 -- ---- what the shape above a step says of the shape below it
 
-list_keyless : (it : Step) → is_keyed (shape_after shape.List (on_list it)) ≡ false
+list_keyless : (it : Step) → is_keyed (shape_after shape.List (on_list (form_of_step it))) ≡ false
 list_keyless (step.Plain Reverse) = refl
 list_keyless (step.Plain Unmodifiable) = refl
 list_keyless (step.Change Transform f) = refl
 list_keyless (step.Filter Filter p) = refl
 list_keyless _ = refl
 
-coll_keyless : (it : Step) → is_keyed (shape_after shape.Coll (on_coll it)) ≡ false
+coll_keyless : (it : Step) → is_keyed (shape_after shape.Coll (on_coll (form_of_step it))) ≡ false
 coll_keyless (step.Plain Unmodifiable) = refl
 coll_keyless (step.Change Transform f) = refl
 coll_keyless (step.Filter Filter p) = refl
 coll_keyless _ = refl
 
-set_unsorted : (it : Step) → is_sorted (shape_after (shape.Set false) (on_set false it)) ≡ false
+set_unsorted : (it : Step) → is_sorted (shape_after (shape.Set false) (on_set false (form_of_step it))) ≡ false
 set_unsorted (step.Change Transform f) = refl
 set_unsorted (step.Change AsMap f) = refl
 set_unsorted (step.Filter Filter p) = refl
@@ -52,7 +52,7 @@ set_unsorted (step.Plain Unmodifiable) = refl
 set_unsorted (step.Within order w) = refl
 set_unsorted _ = refl
 
-map_unsorted : (it : Step) → is_sorted (shape_after (shape.Map false) (on_map false it)) ≡ false
+map_unsorted : (it : Step) → is_sorted (shape_after (shape.Map false) (on_map false (form_of_step it))) ≡ false
 map_unsorted (step.Within order w) = refl
 map_unsorted (step.Plain Descending) = refl
 map_unsorted (step.Plain KeySet) = refl
@@ -71,20 +71,20 @@ KeepsKeys (step.Plain Values) = ⊥
 KeepsKeys (step.Change Transform f) = ⊥
 KeepsKeys _ = Unit {0}
 
-set_keeps : (sorted : Bool) (it : Step) → IsSome (on_set sorted it) → is_keyed (shape_after (shape.Set sorted) (on_set sorted it)) ≡ true → KeepsKeys it
+set_keeps : (sorted : Bool) (it : Step) → IsSome (on_set sorted (form_of_step it)) → is_keyed (shape_after (shape.Set sorted) (on_set sorted (form_of_step it))) ≡ true → KeepsKeys it
 set_keeps sorted (step.Plain Values) some keyed = absurd (cc)
 set_keeps sorted (step.Change Transform f) some keyed = absurd (cc)
 set_keeps sorted _ some keyed = tt
 
-map_keeps : (sorted : Bool) (it : Step) → IsSome (on_map sorted it) → is_keyed (shape_after (shape.Map sorted) (on_map sorted it)) ≡ true → KeepsKeys it
+map_keeps : (sorted : Bool) (it : Step) → IsSome (on_map sorted (form_of_step it)) → is_keyed (shape_after (shape.Map sorted) (on_map sorted (form_of_step it))) ≡ true → KeepsKeys it
 map_keeps sorted (step.Plain Values) some keyed = absurd (cc)
 map_keeps sorted (step.Change Transform f) some keyed = absurd (cc)
 map_keeps sorted _ some keyed = tt
 
 keyed_down : (of : Shape) (it : Step) → IsSome (apply of it) → is_keyed (shape_after of (apply of it)) ≡ true → (is_keyed of ≡ true) × KeepsKeys it
-keyed_down shape.List it some keyed = absurd (never (is_keyed (shape_after shape.List (on_list it))) (list_keyless it) keyed)
+keyed_down shape.List it some keyed = absurd (never (is_keyed (shape_after shape.List (on_list (form_of_step it)))) (list_keyless it) keyed)
 keyed_down (shape.Set sorted) it some keyed = (refl, set_keeps sorted it some keyed)
-keyed_down shape.Coll it some keyed = absurd (never (is_keyed (shape_after shape.Coll (on_coll it))) (coll_keyless it) keyed)
+keyed_down shape.Coll it some keyed = absurd (never (is_keyed (shape_after shape.Coll (on_coll (form_of_step it)))) (coll_keyless it) keyed)
 keyed_down (shape.Rows rows.Entry) it some keyed = absurd (cc)
 keyed_down (shape.Map sorted) it some keyed = (refl, map_keeps sorted it some keyed)
 
@@ -99,13 +99,13 @@ list_sorted : (of : Shape) → is_keyed of ≡ false → is_sorted of ≡ true �
 list_sorted of h k = never (is_keyed of) h (sorted_keyed of k)
 
 sorted_down : (of : Shape) (it : Step) → IsSome (apply of it) → is_sorted (shape_after of (apply of it)) ≡ true → is_sorted of ≡ true
-sorted_down shape.List it some h = absurd (list_sorted (shape_after shape.List (on_list it)) (list_keyless it) h)
+sorted_down shape.List it some h = absurd (list_sorted (shape_after shape.List (on_list (form_of_step it))) (list_keyless it) h)
 sorted_down (shape.Set true) it some h = refl
-sorted_down (shape.Set false) it some h = absurd (never (is_sorted (shape_after (shape.Set false) (on_set false it))) (set_unsorted it) h)
-sorted_down shape.Coll it some h = absurd (list_sorted (shape_after shape.Coll (on_coll it)) (coll_keyless it) h)
+sorted_down (shape.Set false) it some h = absurd (never (is_sorted (shape_after (shape.Set false) (on_set false (form_of_step it)))) (set_unsorted it) h)
+sorted_down shape.Coll it some h = absurd (list_sorted (shape_after shape.Coll (on_coll (form_of_step it))) (coll_keyless it) h)
 sorted_down (shape.Rows rows.Entry) it some h = absurd (cc)
 sorted_down (shape.Map true) it some h = refl
-sorted_down (shape.Map false) it some h = absurd (never (is_sorted (shape_after (shape.Map false) (on_map false it))) (map_unsorted it) h)
+sorted_down (shape.Map false) it some h = absurd (never (is_sorted (shape_after (shape.Map false) (on_map false (form_of_step it)))) (map_unsorted it) h)
 
 -- only a sorted view has windows
 window_sorted : (of : Shape) (order : Order) (w : Window) → IsSome (apply of (step.Within order w)) → is_sorted of ≡ true

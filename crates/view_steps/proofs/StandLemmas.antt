@@ -15,6 +15,7 @@ use Rattle.view_steps.specs.Shapes.{is_keyed}
 use Rattle.view_steps.specs.Steps.{family_of, item_of, passes}
 use Rattle.view_steps.specs.Views.{World, View, base, over, base_at, base_under, Base, Candidate, candidates, in_family, cut, with_item, seen_if, of_rows}
 use Rattle.view_steps.proofs.LabelLemmas.{row_of_key}
+use Rattle.view_steps.proofs.ListLemmas.{fewer}
 
 -- ---- two lists whose elements stand in a relation, one by one
 
@@ -89,14 +90,14 @@ keys_stand n (row ∷ rows) whole at is =
     let here : slice_get whole n ≡ Some row = ap (slice_get whole) (let e : n ≡ n + 0 = omega arith in e) ∙ at 0 in
     let rest : (i : ℕ) → slice_get whole (n + 1 + i) ≡ slice_get rows i = λ i. ap (slice_get whole) (let e : n + 1 + i ≡ n + suc i = omega arith in e) ∙ at (suc i) in
     let found : row_at whole (key_place row) ≡ Some row = is 0 row refl in
-    ((ap (option_map found_row) found, record { number = n; only = refl; row = here ∙ sym found }), keys_stand (n + 1) rows whole rest (λ i r q. is (suc i) r q))
+    ((ap (option_map found_row) found, record { number = n; only = refl; index = tt; row = here ∙ sym found }), keys_stand (n + 1) rows whole rest (λ i r q. is (suc i) r q))
 
 indexes_stand : (n : ℕ) (rows whole : List Item) → ((i : ℕ) → slice_get whole (n + i) ≡ slice_get rows i) → Zipped (Stands (in_rows whole) whole) (numbered n rows) (of_rows n rows)
 indexes_stand n [] whole at = tt
 indexes_stand n (row ∷ rows) whole at =
     let here : slice_get whole n ≡ Some row = ap (slice_get whole) (let e : n ≡ n + 0 = omega arith in e) ∙ at 0 in
     let rest : (i : ℕ) → slice_get whole (n + 1 + i) ≡ slice_get rows i = λ i. ap (slice_get whole) (let e : n + 1 + i ≡ n + suc i = omega arith in e) ∙ at (suc i) in
-    ((ap (option_map found_row) here, record { number = n; only = refl; row = refl }), indexes_stand (n + 1) rows whole rest)
+    ((ap (option_map found_row) here, record { number = n; only = refl; index = refl; row = refl }), indexes_stand (n + 1) rows whole rest)
 
 base_stands : (it : Base) → HasKeys it → Zipped (Stands (in_rows it.rows) it.rows) (places_of it) (of_rows 0 it.rows)
 base_stands it keys = by (is_keyed (shape_of_kind it.kind)) refl
@@ -111,7 +112,7 @@ base_stands it keys = by (is_keyed (shape_of_kind it.kind)) refl
 -- ---- a step
 
 through : (g : Found → Found) (at : Place → Option Found) (whole : List Item) (p : Place) (c d : Candidate) → d.rows ≡ c.rows → found_in d ≡ g (found_in c) → Stands at whole p c → Stands (λ q. option_map g (at q)) whole p d
-through g at whole p c d rows same s = (ap (option_map g) s.0 ∙ ap Some (sym same), record { number = s.1.number; only = rows ∙ s.1.only; row = s.1.row })
+through g at whole p c d rows same s = (ap (option_map g) s.0 ∙ ap Some (sym same), record { number = s.1.number; only = rows ∙ s.1.only; index = s.1.index; row = s.1.row })
 
 cut_passes : (it : Step) (at : Place → Option Found) (whole : List Item) (p : Place) (c : Candidate) → Stands at whole p c → passes_at it (at p) ≡ passes it c.item
 cut_passes it at whole p c s = ap (passes_at it) s.0
@@ -141,14 +142,6 @@ pub count_law : (world : World) (v : View) → HasKeys (base_at world (base_unde
 count_law world v keys = zipped-length (Stands (show world v) (base_at world (base_under v)).rows) (places world v) (candidates world v) (view_stands world v keys)
 
 -- ---- no more candidates than rows
-
-fewer : {X : Type 0} (p : X → Bool) (xs : List X) → length (filter p xs) ≤ length xs
-fewer p [] = omega arith
-fewer p (x ∷ xs) = by (p x) (fewer p xs)
-  where
-    by : (t : Bool) → length (filter p xs) ≤ length xs → length (cond t (x ∷ filter p xs) (filter p xs)) ≤ suc (length xs)
-    by true h = omega (arith, h)
-    by false h = omega (arith, h)
 
 rows_counted : (n : ℕ) (rows : List Item) → length (of_rows n rows) ≡ length rows
 rows_counted n [] = refl

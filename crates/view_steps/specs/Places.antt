@@ -87,8 +87,19 @@ places world (over step v) = places_over (family_of step) step (show world v) (p
 abbrev pub StandsFor : World → View → Place → ℕ → Type 0
 StandsFor world v p i = slice_get (places world v) i ≡ Some p
 
+-- what the number of the row at an index is: the index
+abbrev pub IsNumberAt : ℕ → Place → Type 0
+IsNumberAt n (Index i) = n ≡ i
+IsNumberAt n (Key k) = Unit {0}
+
 -- the numbers of the one row at a place
 pub record IsRowAt (rows : List Item) (p : Place) (numbers : List ℕ) : Type 0 where
   pub number : ℕ
   pub only : numbers ≡ number ∷ []
+  pub index : IsNumberAt number p
   pub row : slice_get rows number ≡ row_at rows p
+
+-- what a view makes of a row of its base, step by step
+abbrev pub found_by_steps : View → Item → Found
+found_by_steps (base b) row = found_row row
+found_by_steps (over step v) row = found_over (family_of step) step (found_by_steps v row)

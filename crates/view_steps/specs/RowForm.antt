@@ -1,12 +1,12 @@
 -- The row form of a view: what each row of the base is to it, told from that row alone; and the laws of this form.
-use Rattle.std.specs.Prelude.{◌≡◌, Bool, true, false, ◌&&◌, not, if◌then◌else◌, List, [], ◌∷◌, ◌++◌, map, filter, Some}
+use Rattle.std.specs.Prelude.{◌≡◌, Bool, true, false, ◌&&◌, not, if◌then◌else◌, List, [], ◌∷◌, ◌++◌, map, filter, Some, Option, None}
 use Rattle.view_steps.specs.declared.items.Item.{Item}
 use Rattle.view_steps.specs.declared.places.Found.{Found}
 use Rattle.view_steps.specs.declared.steps.Step.{Step}
 use Rattle.view_steps.specs.declared.step_table.Family.{Family}
 use Rattle.view_steps.specs.declared.step_table.Family.TheVariants.{Same, Changed, Turned, Hidden, Cut}
 use Rattle.view_steps.specs.Lanes.{turned_if}
-use Rattle.view_steps.specs.Places.{found_in}
+use Rattle.view_steps.specs.Places.{found_in, found_over}
 use Rattle.view_steps.specs.Steps.{family_of, item_of, passes}
 use Rattle.view_steps.specs.Views.{World, View, base, over, base_at, base_under, Candidate, candidates, changed, hidden, cut, of_rows, shown, lift, flags_at}
 
@@ -109,3 +109,23 @@ pub record FoundAround (f : RowForm) (before after : List Item) : Type 0 where
 -- a row comes or goes with its one candidate, or with none, and the others stay in their order
 abbrev pub OneCandidateLaw : Type 0
 OneCandidateLaw = (f : RowForm) (before after : List Item) → FoundAround f before after
+
+-- what a form has of a row: nothing where it leaves the row out
+abbrev pub found_of_row : RowForm → Item → Option Found
+found_of_row f row = if f.takes row then Some (found_row_by f row) else None
+
+-- whether a form shows a row as an item that passes
+abbrev pub is_row_hit : (Item → Bool) → RowForm → Item → Bool
+is_row_hit p f row = shows f row && p (f.item row)
+
+-- whether a step leaves an item out
+abbrev pub is_cut_in : Family → Step → Item → Bool
+is_cut_in Cut step item = not (passes step item)
+is_cut_in family step item = false
+
+abbrev pub is_cut : Step → Item → Bool
+is_cut step item = is_cut_in (family_of step) step item
+
+-- what a view by a step has of a row, by what the view below it has of it
+abbrev pub found_through : Step → Found → Option Found
+found_through step found = if is_cut step found.item then None else Some (found_over (family_of step) step found)

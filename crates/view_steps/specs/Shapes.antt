@@ -9,10 +9,12 @@ use Rattle.view_steps.specs.declared.shapes.Sort.TheVariants as sort
 -- a shape as far as words ask for it
 abbrev pub sort_of : Shape → Sort
 sort_of shape.List = sort.List
-sort_of (shape.Set sorted) = sort.Set
+sort_of (shape.Set false) = sort.Set
+sort_of (shape.Set true) = sort.SortedSet
 sort_of shape.Coll = sort.Coll
 sort_of (shape.Rows Entry) = sort.EntryRows
-sort_of (shape.Map sorted) = sort.Map
+sort_of (shape.Map false) = sort.Map
+sort_of (shape.Map true) = sort.SortedMap
 
 -- whether a view of the shape is sorted
 abbrev pub is_sorted : Shape → Bool

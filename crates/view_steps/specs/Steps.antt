@@ -12,6 +12,8 @@ use Rattle.view_steps.specs.declared.steps.FilterStep.TheVariants as filter
 use Rattle.view_steps.specs.declared.steps.ChangeStep.TheVariants.{Transform, TransformValues, AsMap}
 use Rattle.view_steps.specs.declared.steps.Step.{Step}
 use Rattle.view_steps.specs.declared.steps.Step.TheVariants.{Plain, Filter, FilterPairs, Change, Within}
+use Rattle.view_steps.specs.declared.steps.StepForm.{StepForm}
+use Rattle.view_steps.specs.declared.steps.StepForm.TheVariants as form
 use Rattle.view_steps.specs.declared.steps.Flags.{Flags}
 use Rattle.view_steps.specs.declared.steps.Needs.{Needs}
 use Rattle.view_steps.specs.declared.steps.Needs.TheVariants as needs
@@ -57,50 +59,61 @@ lifted step item = if passes step item then Some item else None
 
 -- ---- the shape that a step gives, where the table has such a step
 
+-- a step without its argument
+abbrev pub form_of_step : Step → StepForm
+form_of_step (Plain word) = form.Plain word
+form_of_step (Filter word p) = form.Filter word
+form_of_step (FilterPairs q) = form.FilterPairs
+form_of_step (Change word f) = form.Change word
+form_of_step (Within order w) = form.Within
+
 abbrev pub where_sorted : Bool → Shape → Option Shape
 where_sorted sorted given = if sorted then Some given else None
 
-abbrev pub on_list : Step → Option Shape
-on_list (Plain Reverse) = Some shape.List
-on_list (Change Transform f) = Some shape.List
-on_list (Filter filter.Filter p) = Some shape.Coll
-on_list (Plain Unmodifiable) = Some shape.List
+abbrev pub on_list : StepForm → Option Shape
+on_list (form.Plain Reverse) = Some shape.List
+on_list (form.Change Transform) = Some shape.List
+on_list (form.Filter filter.Filter) = Some shape.Coll
+on_list (form.Plain Unmodifiable) = Some shape.List
 on_list step = None
 
-abbrev pub on_coll : Step → Option Shape
-on_coll (Filter filter.Filter p) = Some shape.Coll
-on_coll (Change Transform f) = Some shape.Coll
-on_coll (Plain Unmodifiable) = Some shape.Coll
+abbrev pub on_coll : StepForm → Option Shape
+on_coll (form.Filter filter.Filter) = Some shape.Coll
+on_coll (form.Change Transform) = Some shape.Coll
+on_coll (form.Plain Unmodifiable) = Some shape.Coll
 on_coll step = None
 
-abbrev pub on_set : Bool → Step → Option Shape
-on_set sorted (Change Transform f) = Some shape.Coll
-on_set sorted (Filter filter.Filter p) = Some (shape.Set sorted)
-on_set sorted (Within order w) = where_sorted sorted (shape.Set sorted)
-on_set sorted (Plain Descending) = where_sorted sorted (shape.Set sorted)
-on_set sorted (Change AsMap f) = Some (shape.Map sorted)
-on_set sorted (Plain Unmodifiable) = Some (shape.Set sorted)
+abbrev pub on_set : Bool → StepForm → Option Shape
+on_set sorted (form.Change Transform) = Some shape.Coll
+on_set sorted (form.Filter filter.Filter) = Some (shape.Set sorted)
+on_set sorted form.Within = where_sorted sorted (shape.Set sorted)
+on_set sorted (form.Plain Descending) = where_sorted sorted (shape.Set sorted)
+on_set sorted (form.Change AsMap) = Some (shape.Map sorted)
+on_set sorted (form.Plain Unmodifiable) = Some (shape.Set sorted)
 on_set sorted step = None
 
-abbrev pub on_map : Bool → Step → Option Shape
-on_map sorted (Within order w) = where_sorted sorted (shape.Map sorted)
-on_map sorted (Plain Descending) = where_sorted sorted (shape.Map sorted)
-on_map sorted (Plain KeySet) = Some (shape.Set sorted)
-on_map sorted (Plain Values) = Some shape.Coll
-on_map sorted (Plain EntrySet) = Some (shape.Rows rows.Entry)
-on_map sorted (Filter filter.FilterKeys p) = Some (shape.Map sorted)
-on_map sorted (Filter filter.FilterValues p) = Some (shape.Map sorted)
-on_map sorted (FilterPairs q) = Some (shape.Map sorted)
-on_map sorted (Change TransformValues f) = Some (shape.Map sorted)
-on_map sorted (Plain Unmodifiable) = Some (shape.Map sorted)
+abbrev pub on_map : Bool → StepForm → Option Shape
+on_map sorted form.Within = where_sorted sorted (shape.Map sorted)
+on_map sorted (form.Plain Descending) = where_sorted sorted (shape.Map sorted)
+on_map sorted (form.Plain KeySet) = Some (shape.Set sorted)
+on_map sorted (form.Plain Values) = Some shape.Coll
+on_map sorted (form.Plain EntrySet) = Some (shape.Rows rows.Entry)
+on_map sorted (form.Filter filter.FilterKeys) = Some (shape.Map sorted)
+on_map sorted (form.Filter filter.FilterValues) = Some (shape.Map sorted)
+on_map sorted form.FilterPairs = Some (shape.Map sorted)
+on_map sorted (form.Change TransformValues) = Some (shape.Map sorted)
+on_map sorted (form.Plain Unmodifiable) = Some (shape.Map sorted)
 on_map sorted step = None
 
+abbrev pub apply_form : Shape → StepForm → Option Shape
+apply_form shape.List step = on_list step
+apply_form (shape.Set sorted) step = on_set sorted step
+apply_form shape.Coll step = on_coll step
+apply_form (shape.Rows rows.Entry) step = None
+apply_form (shape.Map sorted) step = on_map sorted step
+
 abbrev pub apply : Shape → Step → Option Shape
-apply shape.List step = on_list step
-apply (shape.Set sorted) step = on_set sorted step
-apply shape.Coll step = on_coll step
-apply (shape.Rows rows.Entry) step = None
-apply (shape.Map sorted) step = on_map sorted step
+apply of step = apply_form of (form_of_step step)
 
 -- ---- what a view by a step allows, where the view below has this shape and allows this
 

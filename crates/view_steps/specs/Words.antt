@@ -9,7 +9,7 @@ use Rattle.view_steps.specs.declared.words.Action.{Action}
 use Rattle.view_steps.specs.declared.words.Action.TheVariants as action
 use Rattle.view_steps.specs.declared.words.Table.{Table}
 use Rattle.view_steps.specs.declared.words.Table.TheVariants as table
-use Rattle.view_steps.specs.declared.words.TheConstants.{MAPS, ELEMENTS, SIZED}
+use Rattle.view_steps.specs.declared.words.TheConstants.{LISTS, SETS, SORTED_SETS, ELEMENTS, MAPS, SORTED_MAPS, SORTED, ENTRIES, LOCKED, SIZED}
 
 -- a word's spelling, and what it does
 abbrev pub Row : Type 0
@@ -24,6 +24,9 @@ count_of (action.Step (step.Change word)) = 1
 count_of (action.Step step.Within) = 1
 count_of (action.Call (call.Ask word)) = 0
 count_of (action.Call (call.Element word)) = 1
+count_of (action.Call (call.Index word)) = 1
+count_of (action.Call (call.Other word)) = 1
+count_of (action.Call (call.Indexed word)) = 2
 count_of (action.Call (call.Pair word)) = 2
 
 -- the action of the first row that fits
@@ -33,15 +36,26 @@ chosen word count (row ∷ rows) = if pointwise nat_eq row.0 word && count_of ro
 
 -- the rows of a part
 unfoldable pub rows_of : Table → List Row
-rows_of table.Maps = map (λ row. (row.0.now, row.1)) MAPS
+rows_of table.Lists = map (λ row. (row.0.now, row.1)) LISTS
+rows_of table.Sets = map (λ row. (row.0.now, row.1)) SETS
+rows_of table.SortedSets = map (λ row. (row.0.now, row.1)) SORTED_SETS
 rows_of table.Elements = map (λ row. (row.0.now, row.1)) ELEMENTS
+rows_of table.Maps = map (λ row. (row.0.now, row.1)) MAPS
+rows_of table.SortedMaps = map (λ row. (row.0.now, row.1)) SORTED_MAPS
+rows_of table.Sorted = map (λ row. (row.0.now, row.1)) SORTED
+rows_of table.Entries = map (λ row. (row.0.now, row.1)) ENTRIES
+rows_of table.Locked = map (λ row. (row.0.now, row.1)) LOCKED
 rows_of table.Sized = map (λ row. (row.0.now, row.1)) SIZED
 
 -- the parts that have the words of a sort
 abbrev pub tables_of : Sort → List Table
-tables_of sort.Set = table.Elements ∷ table.Sized ∷ []
-tables_of sort.Map = table.Maps ∷ table.Sized ∷ []
-tables_of other = table.Sized ∷ []
+tables_of sort.List = table.Lists ∷ table.Elements ∷ table.Locked ∷ table.Sized ∷ []
+tables_of sort.Set = table.Sets ∷ table.Elements ∷ table.Locked ∷ table.Sized ∷ []
+tables_of sort.SortedSet = table.SortedSets ∷ table.Sorted ∷ table.Sets ∷ table.Elements ∷ table.Locked ∷ table.Sized ∷ []
+tables_of sort.Coll = table.Elements ∷ table.Locked ∷ table.Sized ∷ []
+tables_of sort.EntryRows = table.Entries ∷ table.Sized ∷ []
+tables_of sort.Map = table.Maps ∷ table.Locked ∷ table.Sized ∷ []
+tables_of sort.SortedMap = table.SortedMaps ∷ table.Sorted ∷ table.Maps ∷ table.Locked ∷ table.Sized ∷ []
 
 -- the first of two actions that is there
 abbrev pub first_of : Option Action → Option Action → Option Action

@@ -2,7 +2,7 @@
 ghost use Rattle.std.specs.Prelude.{◌≡◌};
 ghost use Rattle.view_steps.specs.Calls as spec;
 
-use crate::{Needs, Shape};
+use crate::{Needs, RowSort, Shape};
 use elem::Elem;
 
 /// The calls that take nothing.
@@ -10,6 +10,18 @@ use elem::Elem;
 pub enum Ask {
     /// How many items are shown.
     Size,
+    /// Whether none is shown.
+    IsEmpty,
+    /// `Collection.clear`, `Map.clear`: what is shown goes.
+    Clear,
+    /// `SortedSet.first`.
+    First,
+    /// `SortedSet.last`.
+    Last,
+    /// `SortedMap.firstKey`.
+    FirstKey,
+    /// `SortedMap.lastKey`.
+    LastKey,
 }
 
 /// The calls that take an element.
@@ -19,12 +31,36 @@ pub enum OnElement {
     Contains,
     /// `Collection.add`.
     Add,
-    /// `Collection.remove`.
+    /// `Collection.remove`: the first item that is the same goes.
     Remove,
+    /// `List.indexOf`.
+    IndexOf,
     /// `Map.get`.
     ValueOf,
+    /// `Map.containsKey`.
+    ContainsKey,
+    /// `Map.containsValue`.
+    ContainsValue,
     /// `Map.remove`.
     RemoveKey,
+}
+
+/// The calls that take an index.
+#[derive(Clone, Copy, Debug)]
+pub enum OnIndex {
+    /// `List.get`.
+    ItemAt,
+    /// `List.remove` of an index.
+    RemoveAt,
+}
+
+/// The calls that take an index and an element.
+#[derive(Clone, Copy, Debug)]
+pub enum OnIndexed {
+    /// `List.add` at an index.
+    AddAt,
+    /// `List.set`.
+    SetAt,
 }
 
 /// The calls that take two elements.
@@ -32,6 +68,25 @@ pub enum OnElement {
 pub enum OnPair {
     /// `Map.put`.
     Put,
+    /// `Set.contains` of an entry.
+    ContainsEntry,
+    /// `Set.remove` of an entry.
+    RemoveEntry,
+}
+
+/// The calls that take another view. It is read whole before anything changes, so a view may be its own argument.
+#[derive(Clone, Copy, Debug)]
+pub enum OnOther {
+    /// `Collection.containsAll`.
+    ContainsAll,
+    /// `Collection.addAll`: every item is tested before one is added.
+    AddAll,
+    /// `Collection.removeAll`.
+    RemoveAll,
+    /// `Collection.retainAll`.
+    RetainAll,
+    /// `Map.putAll`: every entry is tested before one is put.
+    PutAll,
 }
 
 /// What a call takes, and which one it is.
@@ -39,15 +94,32 @@ pub enum OnPair {
 pub enum CallForm {
     Ask(Ask),
     Element(OnElement),
+    Index(OnIndex),
+    Indexed(OnIndexed),
     Pair(OnPair),
+    Other(OnOther),
 }
 
-/// A call with its arguments.
+/// A call with its arguments, where none of them is another view. An index is none where the number is negative.
 #[derive(Clone, Copy, Debug)]
 pub enum Call {
     Ask(Ask),
     Element(OnElement, Elem),
+    Index(OnIndex, Option<usize>),
+    Indexed(OnIndexed, Option<usize>, Elem),
     Pair(OnPair, Elem, Elem),
+}
+
+fn is_elements(shape: Shape) -> bool
+    ensures { result ≡ spec.is_elements shape }
+{
+    matches!(shape, Shape::List | Shape::Set { .. } | Shape::Coll)
+}
+
+fn is_map(shape: Shape) -> bool
+    ensures { result ≡ spec.is_map shape }
+{
+    matches!(shape, Shape::Map { .. })
 }
 
 /// Whether views of a shape have a call.
@@ -55,12 +127,48 @@ pub fn fits(shape: Shape, call: &Call) -> bool
     ensures { result ≡ spec.fits shape call.now }
 {
     match call {
-        Call::Ask(Ask::Size) => true,
-        Call::Element(OnElement::Contains | OnElement::Add | OnElement::Remove, _) => {
-            matches!(shape, Shape::Set { .. })
+        Call::Ask(word) => fits_ask(shape, *word),
+        Call::Element(word, _) => fits_element(shape, *word),
+        Call::Index(_, _) | Call::Indexed(_, _, _) => matches!(shape, Shape::List),
+        Call::Pair(OnPair::Put, _, _) => is_map(shape),
+        Call::Pair(OnPair::ContainsEntry | OnPair::RemoveEntry, _, _) => {
+            matches!(shape, Shape::Rows(RowSort::Entry))
         }
-        Call::Element(OnElement::ValueOf | OnElement::RemoveKey, _)
-        | Call::Pair(OnPair::Put, _, _) => { matches!(shape, Shape::Map { .. }) }
+    }
+}
+
+fn fits_ask(shape: Shape, word: Ask) -> bool
+    ensures { result ≡ spec.fits_ask shape word }
+{
+    match word {
+        Ask::Size | Ask::IsEmpty | Ask::Clear => true,
+        Ask::First | Ask::Last => matches!(shape, Shape::Set { sorted: true }),
+        Ask::FirstKey | Ask::LastKey => matches!(shape, Shape::Map { sorted: true }),
+    }
+}
+
+fn fits_element(shape: Shape, word: OnElement) -> bool
+    ensures { result ≡ spec.fits_element shape word }
+{
+    match word {
+        OnElement::Contains | OnElement::Add | OnElement::Remove => is_elements(shape),
+        OnElement::IndexOf => matches!(shape, Shape::List),
+        OnElement::ValueOf
+        | OnElement::ContainsKey
+        | OnElement::ContainsValue
+        | OnElement::RemoveKey => is_map(shape),
+    }
+}
+
+/// Whether views of a shape have a call with a view of another shape.
+pub fn fits_with(shape: Shape, word: OnOther, other: Shape) -> bool
+    ensures { result ≡ spec.fits_with shape word other }
+{
+    match word {
+        OnOther::ContainsAll | OnOther::AddAll | OnOther::RemoveAll | OnOther::RetainAll => {
+            is_elements(shape) && is_elements(other)
+        }
+        OnOther::PutAll => is_map(shape) && is_map(other),
     }
 }
 
@@ -69,8 +177,23 @@ pub fn needs_of(call: &Call) -> Needs
     ensures { result ≡ spec.needs_of call.now }
 {
     match call {
-        Call::Element(OnElement::Add, _) | Call::Pair(OnPair::Put, _, _) => Needs::Add,
-        Call::Element(OnElement::Remove | OnElement::RemoveKey, _) => Needs::Remove,
+        Call::Element(OnElement::Add, _) | Call::Indexed(_, _, _) | Call::Pair(OnPair::Put, _, _) =>
+            { Needs::Add }
+        Call::Ask(Ask::Clear)
+        | Call::Element(OnElement::Remove | OnElement::RemoveKey, _)
+        | Call::Index(OnIndex::RemoveAt, _)
+        | Call::Pair(OnPair::RemoveEntry, _, _) => Needs::Remove,
         _ => Needs::Nothing,
+    }
+}
+
+/// What a call with another view asks of its receiver.
+pub fn needs_with(word: OnOther) -> Needs
+    ensures { result ≡ spec.needs_with word }
+{
+    match word {
+        OnOther::ContainsAll => Needs::Nothing,
+        OnOther::AddAll | OnOther::PutAll => Needs::Add,
+        OnOther::RemoveAll | OnOther::RetainAll => Needs::Remove,
     }
 }

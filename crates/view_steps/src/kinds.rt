@@ -28,7 +28,17 @@ pub enum Kind {
 }
 
 /// The kinds by the words that stand behind `new`.
-pub const KINDS: [(&[u8], Kind); 1] = [(b"LinkedHashMap", Kind::LinkedHashMap)];
+pub const KINDS: [(&[u8], Kind); 9] = [
+    (b"ArrayList", Kind::ArrayList),
+    (b"LinkedHashSet", Kind::LinkedHashSet),
+    (b"TreeSet", Kind::TreeSet),
+    (b"TreeSetReverse", Kind::TreeSetReverse),
+    (b"TreeSetLength", Kind::TreeSetLength),
+    (b"LinkedHashMap", Kind::LinkedHashMap),
+    (b"TreeMap", Kind::TreeMap),
+    (b"TreeMapReverse", Kind::TreeMapReverse),
+    (b"TreeMapLength", Kind::TreeMapLength),
+];
 
 /// The kind that a word names, where it names one.
 pub fn kind_named(word: &[u8]) -> Option<Kind>

@@ -28,9 +28,11 @@ pub enum RowSort {
 pub enum Sort {
     List,
     Set,
+    SortedSet,
     Coll,
     EntryRows,
     Map,
+    SortedMap,
 }
 
 /// The sort of a shape.
@@ -39,9 +41,11 @@ pub fn sort_of(shape: Shape) -> Sort
 {
     match shape {
         Shape::List => Sort::List,
-        Shape::Set { .. } => Sort::Set,
+        Shape::Set { sorted: false } => Sort::Set,
+        Shape::Set { sorted: true } => Sort::SortedSet,
         Shape::Coll => Sort::Coll,
         Shape::Rows(RowSort::Entry) => Sort::EntryRows,
-        Shape::Map { .. } => Sort::Map,
+        Shape::Map { sorted: false } => Sort::Map,
+        Shape::Map { sorted: true } => Sort::SortedMap,
     }
 }

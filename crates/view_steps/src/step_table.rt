@@ -3,8 +3,8 @@ ghost use Rattle.std.specs.Prelude.{◌≡◌};
 ghost use Rattle.view_steps.specs.Steps as spec;
 
 use crate::{
-    ChangeStep, FilterStep, Flags, Item, Needs, PlainStep, RowSort, Shape, Step, key_of, lies_in,
-    value_of, with_value,
+    ChangeStep, FilterStep, Flags, Item, Needs, PlainStep, RowSort, Shape, Step, StepForm, key_of,
+    lies_in, value_of, with_value,
 };
 
 /// What a step makes of the walk below it.
@@ -77,69 +77,76 @@ pub fn lifted(step: &Step, item: &Item) -> Option<Item>
 pub fn apply(shape: &Shape, step: &Step) -> Option<Shape>
     ensures { result ≡ spec.apply shape.now step.now }
 {
+    apply_form(*shape, step.form())
+}
+
+/// The shape that the steps of a form give on a view of a shape, where the table has them. No argument changes it.
+pub fn apply_form(shape: Shape, step: StepForm) -> Option<Shape>
+    ensures { result ≡ spec.apply_form shape step }
+{
     match shape {
         Shape::List => on_list(step),
-        Shape::Set { sorted } => on_set(*sorted, step),
+        Shape::Set { sorted } => on_set(sorted, step),
         Shape::Coll => on_coll(step),
         Shape::Rows(RowSort::Entry) => None,
-        Shape::Map { sorted } => on_map(*sorted, step),
+        Shape::Map { sorted } => on_map(sorted, step),
     }
 }
 
-fn on_list(step: &Step) -> Option<Shape>
-    ensures { result ≡ spec.on_list step.now }
+fn on_list(step: StepForm) -> Option<Shape>
+    ensures { result ≡ spec.on_list step }
 {
     match step {
-        Step::Plain(PlainStep::Reverse | PlainStep::Unmodifiable)
-        | Step::Change(ChangeStep::Transform, _) => Some(Shape::List),
-        Step::Filter(FilterStep::Filter, _) => Some(Shape::Coll),
+        StepForm::Plain(PlainStep::Reverse | PlainStep::Unmodifiable)
+        | StepForm::Change(ChangeStep::Transform) => Some(Shape::List),
+        StepForm::Filter(FilterStep::Filter) => Some(Shape::Coll),
         _ => None,
     }
 }
 
-fn on_coll(step: &Step) -> Option<Shape>
-    ensures { result ≡ spec.on_coll step.now }
+fn on_coll(step: StepForm) -> Option<Shape>
+    ensures { result ≡ spec.on_coll step }
 {
     match step {
-        Step::Plain(PlainStep::Unmodifiable)
-        | Step::Change(ChangeStep::Transform, _)
-        | Step::Filter(FilterStep::Filter, _) => Some(Shape::Coll),
+        StepForm::Plain(PlainStep::Unmodifiable)
+        | StepForm::Change(ChangeStep::Transform)
+        | StepForm::Filter(FilterStep::Filter) => Some(Shape::Coll),
         _ => None,
     }
 }
 
-fn on_set(sorted: bool, step: &Step) -> Option<Shape>
-    ensures { result ≡ spec.on_set sorted step.now }
+fn on_set(sorted: bool, step: StepForm) -> Option<Shape>
+    ensures { result ≡ spec.on_set sorted step }
 {
     match step {
-        Step::Plain(PlainStep::Unmodifiable) | Step::Filter(FilterStep::Filter, _) => Some(
+        StepForm::Plain(PlainStep::Unmodifiable) | StepForm::Filter(FilterStep::Filter) => Some(
             Shape::Set { sorted },
         ),
-        Step::Plain(PlainStep::Descending) | Step::Within(_, _) => {
+        StepForm::Plain(PlainStep::Descending) | StepForm::Within => {
             if sorted {
                 Some(Shape::Set { sorted })
             } else {
                 None
             }
         }
-        Step::Change(ChangeStep::Transform, _) => Some(Shape::Coll),
-        Step::Change(ChangeStep::AsMap, _) => Some(Shape::Map { sorted }),
+        StepForm::Change(ChangeStep::Transform) => Some(Shape::Coll),
+        StepForm::Change(ChangeStep::AsMap) => Some(Shape::Map { sorted }),
         _ => None,
     }
 }
 
-fn on_map(sorted: bool, step: &Step) -> Option<Shape>
-    ensures { result ≡ spec.on_map sorted step.now }
+fn on_map(sorted: bool, step: StepForm) -> Option<Shape>
+    ensures { result ≡ spec.on_map sorted step }
 {
     match step {
-        Step::Plain(PlainStep::KeySet) => Some(Shape::Set { sorted }),
-        Step::Plain(PlainStep::Values) => Some(Shape::Coll),
-        Step::Plain(PlainStep::EntrySet) => Some(Shape::Rows(RowSort::Entry)),
-        Step::Plain(PlainStep::Unmodifiable)
-        | Step::Filter(FilterStep::FilterKeys | FilterStep::FilterValues, _)
-        | Step::FilterPairs(_)
-        | Step::Change(ChangeStep::TransformValues, _) => Some(Shape::Map { sorted }),
-        Step::Plain(PlainStep::Descending) | Step::Within(_, _) => {
+        StepForm::Plain(PlainStep::KeySet) => Some(Shape::Set { sorted }),
+        StepForm::Plain(PlainStep::Values) => Some(Shape::Coll),
+        StepForm::Plain(PlainStep::EntrySet) => Some(Shape::Rows(RowSort::Entry)),
+        StepForm::Plain(PlainStep::Unmodifiable)
+        | StepForm::Filter(FilterStep::FilterKeys | FilterStep::FilterValues)
+        | StepForm::FilterPairs
+        | StepForm::Change(ChangeStep::TransformValues) => Some(Shape::Map { sorted }),
+        StepForm::Plain(PlainStep::Descending) | StepForm::Within => {
             if sorted {
                 Some(Shape::Map { sorted })
             } else {

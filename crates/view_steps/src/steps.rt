@@ -1,4 +1,6 @@
 //! Steps from one view to the next, and what a view allows.
+ghost use Rattle.std.specs.Prelude.{◌≡◌};
+ghost use Rattle.view_steps.specs.Steps as spec;
 
 use crate::Order;
 use elem::Window;
@@ -64,6 +66,21 @@ pub enum Step {
     /// `NavigableSet.subSet`, `NavigableMap.subMap` and their kin: live; what lies in a window that is read in an
     /// order, written through. What lies outside cannot be added.
     Within(Order, Window),
+}
+
+impl Step {
+    /// The step without its argument.
+    pub fn form(&self) -> StepForm
+        ensures { result ≡ spec.form_of_step self.now }
+    {
+        match self {
+            Step::Plain(word) => StepForm::Plain(*word),
+            Step::Filter(word, _) => StepForm::Filter(*word),
+            Step::FilterPairs(_) => StepForm::FilterPairs,
+            Step::Change(word, _) => StepForm::Change(*word),
+            Step::Within(_, _) => StepForm::Within,
+        }
+    }
 }
 
 /// What a view allows.

@@ -1,0 +1,132 @@
+-- The rows that an edit leaves, and how many they are.
+use Rattle.std.proofs.Common.{◌≡◌, ℕ, ◌+◌, ◌≤◌, Bool, true, false, cond, ◌||◌, List, [], ◌∷◌, length, refl, ap, ◌∙◌, arith, ◌<◌, suc, inl, inr, ◌⊎◌, ◌≢◌, zero, nat_eq, sym}
+use Rattle.std.specs.Prelude.{nat_lt, Some, slice_get, find, slice_set}
+use Rattle.std.specs.List.{remove}
+use Rattle.std.proofs.lemmas.Bool.Decides.{nat_tests}
+use Rattle.elem.specs.declared.elements.Elem.{Elem}
+use Rattle.elem.specs.Elements.{same}
+use Rattle.view_steps.specs.declared.edits.Spot.{Spot}
+use Rattle.view_steps.specs.declared.items.Item.{Item}
+use Rattle.view_steps.specs.declared.places.Place.{Place}
+use Rattle.view_steps.specs.declared.places.Place.TheVariants.{Index, Key}
+use Rattle.view_steps.specs.declared.refusals.Refusal.{Refusal}
+use Rattle.view_steps.specs.declared.refusals.Refusal.TheVariants.{Limit, NoMemory}
+use Rattle.view_steps.specs.Edits.{adding, removing, edited, goes, placed_all, with_rows, without_rows, Edit, world_after}
+use Rattle.view_steps.specs.Views.{Base, World, base_at}
+use Rattle.view_steps.specs.Items.{key_of}
+use Rattle.view_steps.specs.Places.{IsRowAt}
+use Rattle.view_steps.specs.Limits.{rows_in, most_rows}
+use Rattle.view_steps.proofs.CountLemmas.{rows_in-written}
+use Rattle.view_steps.proofs.ListLemmas.{or-false}
+
+pub without_none : (n : ℕ) (rows : List Item) → without_rows [] n rows ≡ rows
+without_none n [] = refl
+without_none n (row ∷ rows) = ap (λ rs. row ∷ rs) (without_none (n + 1) rows)
+
+pub not_less : (n : ℕ) → nat_lt n n ≡ false
+not_less n = grind (arith, nat_tests)
+
+pub edited_adding : (it : Base) (spot : Spot) (rows : List Item) → edited it (adding spot rows) ≡ with_rows it (placed_all it.kind spot it.rows rows) (nat_lt (length it.rows) (length (placed_all it.kind spot it.rows rows)))
+edited_adding it spot rows =
+    ap (λ (left : List Item). with_rows it (placed_all it.kind spot left rows) (nat_lt (length left) (length it.rows) || nat_lt (length left) (length (placed_all it.kind spot left rows)))) (without_none 0 it.rows)
+    ∙ ap (λ (t : Bool). with_rows it (placed_all it.kind spot it.rows rows) (t || nat_lt (length it.rows) (length (placed_all it.kind spot it.rows rows)))) (not_less (length it.rows))
+
+pub edited_removing : (it : Base) (gone : List ℕ) → edited it (removing gone) ≡ with_rows it (without_rows gone 0 it.rows) (nat_lt (length (without_rows gone 0 it.rows)) (length it.rows))
+edited_removing it gone =
+    let left : List Item = without_rows gone 0 it.rows in
+    ap (λ (t : Bool). with_rows it left (nat_lt (length left) (length it.rows) || t)) (not_less (length left))
+    ∙ ap (λ (t : Bool). with_rows it left t) (or-false (nat_lt (length left) (length it.rows)))
+
+pub without_few : (gone : List ℕ) (n : ℕ) (rows : List Item) → length (without_rows gone n rows) ≤ length rows
+without_few gone n [] = omega arith
+without_few gone n (row ∷ rows) =
+    let rest : length (without_rows gone (n + 1) rows) ≤ length rows = without_few gone (n + 1) rows in
+    elim (goes gone n) as (λ b. length (cond b (without_rows gone (n + 1) rows) (row ∷ without_rows gone (n + 1) rows)) ≤ length (row ∷ rows)) [
+      | true ↦ omega arith
+      | false ↦ omega arith
+    ]
+
+found_number : (k : Elem) (rows : List Item) → (n : ℕ) × (slice_get rows n ≡ find (λ row. same k (key_of row)) rows)
+found_number k [] = (0, refl)
+found_number k (row ∷ rows) =
+    let rest = found_number k rows in
+    elim (same k (key_of row)) as (λ b. (n : ℕ) × (slice_get (row ∷ rows) n ≡ cond b (Some row) (find (λ r. same k (key_of r)) rows))) [
+      | true ↦ (0, refl)
+      | false ↦ (suc rest.0, rest.1)
+    ]
+
+-- a place has the number of a row, or of none
+pub numbers_at : (rows : List Item) (p : Place) → (numbers : List ℕ) × IsRowAt rows p numbers
+numbers_at rows (Index i) = (i ∷ [], record { number = i; only = refl; index = refl; row = refl })
+numbers_at rows (Key k) = let found = found_number k rows in (found.0 ∷ [], record { number = found.0; only = refl; index = tt; row = found.1 })
+
+-- more rows than there is room for are too many
+rows_too_many : (world : World) (b room : ℕ) (edit : Edit) → b < length world → room + rows_in world ≡ most_rows → length (base_at world b).rows + room < length (edited (base_at world b) edit).rows → most_rows < rows_in (world_after world b edit)
+rows_too_many world b room edit lt left more = omega (arith, rows_in-written world b (edited (base_at world b) edit) lt, left, more)
+
+pub limit_cause : (world : World) (b room : ℕ) (edit : Edit) (why : Refusal) → b < length world → room + rows_in world ≡ most_rows → ((why ≡ Limit) × (length (base_at world b).rows + room < length (edited (base_at world b) edit).rows)) ⊎ (why ≡ NoMemory)
+    → ((why ≡ Limit) × (most_rows < rows_in (world_after world b edit))) ⊎ (why ≡ NoMemory)
+limit_cause world b room edit why lt left (inl more) = inl (more.0, rows_too_many world b room edit lt left more.1)
+limit_cause world b room edit why lt left (inr none) = inr none
+
+-- where rows only go, there is room for those that stay
+pub removed_fits : (rows : ℕ) (it : Base) (gone : List ℕ) → rows ≤ most_rows → rows + length (edited it (removing gone)).rows ≤ most_rows + length it.rows
+removed_fits rows it gone few = omega (arith, without_few gone 0 it.rows, few)
+
+-- ---- one row goes
+
+nat_other : (a b : ℕ) → a ≢ b → nat_eq a b ≡ false
+nat_other a b h = grind (arith, nat_tests)
+
+nat_same : (a b : ℕ) → a ≡ b → nat_eq a b ≡ true
+nat_same a b h = grind (arith, nat_tests)
+
+stays : (g n : ℕ) → g ≢ n → goes (g ∷ []) n ≡ false
+stays g n h = ap (λ b. b || false) (nat_other g n h)
+
+leaves : (g n : ℕ) → g ≡ n → goes (g ∷ []) n ≡ true
+leaves g n h = ap (λ b. b || false) (nat_same g n h)
+
+passed : (g n : ℕ) (rows : List Item) → g < n → without_rows (g ∷ []) n rows ≡ rows
+passed g n [] h = refl
+passed g n (row ∷ rows) h =
+    let other : g ≢ n = λ e. omega arith in
+    ap (λ b. cond b (without_rows (g ∷ []) (n + 1) rows) (row ∷ without_rows (g ∷ []) (n + 1) rows)) (stays g n other)
+    ∙ ap (λ (rest : List Item). row ∷ rest) (passed g (n + 1) rows (omega arith))
+
+without_one : (rows : List Item) (i n g : ℕ) → g ≡ n + i → without_rows (g ∷ []) n rows ≡ remove rows i
+without_one [] zero n g e = refl
+without_one [] (suc i) n g e = refl
+without_one (row ∷ rows) zero n g e =
+    ap (λ b. cond b (without_rows (g ∷ []) (n + 1) rows) (row ∷ without_rows (g ∷ []) (n + 1) rows)) (leaves g n (omega arith))
+    ∙ passed g (n + 1) rows (omega arith)
+without_one (row ∷ rows) (suc i) n g e =
+    let other : g ≢ n = λ q. omega arith in
+    ap (λ b. cond b (without_rows (g ∷ []) (n + 1) rows) (row ∷ without_rows (g ∷ []) (n + 1) rows)) (stays g n other)
+    ∙ ap (λ (rest : List Item). row ∷ rest) (without_one rows i (n + 1) g (omega arith))
+
+pub without_numbers : (rows : List Item) (i : ℕ) (numbers : List ℕ) → numbers ≡ i ∷ [] → remove rows i ≡ without_rows numbers 0 rows
+without_numbers rows i numbers e = sym (ap (λ ns. without_rows ns 0 rows) e ∙ without_one rows i 0 i (omega arith))
+
+-- ---- no row goes
+
+at_change : Base → ℕ → Base
+at_change it n = record { kind = it.kind; rows = it.rows; change = n; frozen = it.frozen }
+
+abbrev left : Base → List Item → Base
+left it rows = with_rows it rows (nat_lt (length rows) (length it.rows) || nat_lt (length rows) (length rows))
+
+same_change : (it : Base) → with_rows it it.rows false ≡ it
+unfolding at_change
+same_change it = let e : it.change + 0 ≡ it.change = omega arith in ap (at_change it) e
+
+none_edited : (it : Base) → edited it (removing []) ≡ it
+none_edited it = ap (left it) (without_none 0 it.rows) ∙ ap (λ b. with_rows it it.rows (b || b)) (not_less (length it.rows)) ∙ same_change it
+
+set_base : (world : World) (b : ℕ) → slice_set world b (base_at world b) ≡ world
+set_base [] b = refl
+set_base (it ∷ world) zero = refl
+set_base (it ∷ world) (suc b) = ap (λ w. it ∷ w) (set_base world b)
+
+pub nothing_gone : (world : World) (b : ℕ) → world_after world b (removing []) ≡ world
+nothing_gone world b = ap (slice_set world b) (none_edited (base_at world b)) ∙ set_base world b

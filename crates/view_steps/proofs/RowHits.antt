@@ -1,0 +1,164 @@
+-- The rows that a view shows whose items pass a test are those that its row form shows, and whose items pass.
+use Rattle.std.proofs.Common.{◌≡◌, ℕ, ◌+◌, ◌<◌, ◌≤◌, Bool, true, false, cond, ◌&&◌, ◌||◌, not, List, [], ◌∷◌, length, reverse, refl, ap, sym, ◌∙◌, arith, get_or}
+use Rattle.std.specs.Prelude.{filter, nat_eq, nat_lt, Option, Some, None}
+use Rattle.std.specs.List.{list_any, flat_map}
+use Rattle.std.proofs.lemmas.Bool.Decides.{nat_tests}
+use Rattle.std.proofs.lemmas.List.Folds.{list_any-append}
+use Rattle.std.proofs.lemmas.List.Sorted.{list_any-IsPermutation, IsPermutation-reverse}
+use Rattle.std.proofs.lemmas.Option.{same_Some}
+use Rattle.view_steps.specs.declared.items.Item.{Item}
+use Rattle.view_steps.specs.declared.places.Found.{Found}
+use Rattle.view_steps.specs.declared.step_table.Family.{Family}
+use Rattle.view_steps.specs.declared.step_table.Family.TheVariants.{Same, Changed, Turned, Hidden, Cut}
+use Rattle.view_steps.specs.declared.steps.Step.{Step}
+use Rattle.view_steps.specs.Answering.{is_hit, all_hits}
+use Rattle.view_steps.specs.Edits.{edited, goes, removing, with_rows, without_rows}
+use Rattle.view_steps.specs.Lanes.{turned_if}
+use Rattle.view_steps.specs.RowForm.{RowForm, form_of, is_row_hit, form_over, found_row_by, found_of_row, is_cut_in}
+use Rattle.view_steps.specs.Views.{World, View, base_at, base_under, Candidate, candidates, of_rows, changed, hidden, cut, Base}
+use Rattle.view_steps.specs.Places.{found_over}
+use Rattle.view_steps.specs.Steps.{passes}
+use Rattle.view_steps.proofs.RowLemmas.{row_law}
+use Rattle.view_steps.proofs.EditedRows.{edited_removing}
+use Rattle.view_steps.proofs.ListLemmas.{and-false, and-true, or-false}
+use Rattle.view_steps.proofs.WorldLemmas.{read_at}
+
+-- whether a candidate is hit, and stands for row n
+abbrev hits : (Item → Bool) → ℕ → Candidate → Bool
+hits p n c = is_hit p c && goes c.rows n
+
+goes_hits : (p : Item → Bool) (n : ℕ) (cs : List Candidate) → goes (all_hits p cs) n ≡ list_any (hits p n) cs
+goes_hits p n [] = refl
+goes_hits p n (c ∷ cs) =
+    elim (is_hit p c) as (λ b. goes (flat_map (λ (d : Candidate). d.rows) (cond b (c ∷ filter (is_hit p) cs) (filter (is_hit p) cs))) n ≡ (b && goes c.rows n || list_any (hits p n) cs)) [
+      | true ↦ list_any-append (λ (g : ℕ). nat_eq g n) c.rows (all_hits p cs) ∙ ap (λ t. goes c.rows n || t) (goes_hits p n cs)
+      | false ↦ goes_hits p n cs
+    ]
+
+goes_turned : (p : Item → Bool) (n : ℕ) (t : Bool) (cs : List Candidate) → goes (all_hits p (turned_if t cs)) n ≡ list_any (hits p n) cs
+goes_turned p n true cs = goes_hits p n (reverse cs) ∙ sym (list_any-IsPermutation (hits p n) cs (reverse cs) (IsPermutation-reverse cs))
+goes_turned p n false cs = goes_hits p n cs
+
+-- the candidates that a form makes of rows, in the order of the rows
+abbrev made : RowForm → ℕ → List Item → List Candidate
+made f k rows = changed f.item (hidden f.sees (cut f.takes (of_rows k rows)))
+
+abbrev head : (Item → Bool) → RowForm → ℕ → Item → ℕ → Bool
+head p f k row n = is_row_hit p f row && nat_eq k n
+
+-- a row is hit by its own number, and the others are as they were
+made_head : (p : Item → Bool) (f : RowForm) (k : ℕ) (row : Item) (rows : List Item) (n : ℕ) → list_any (hits p n) (made f k (row ∷ rows)) ≡ (head p f k row n || list_any (hits p n) (made f (k + 1) rows))
+made_head p f k row rows n =
+    elim (f.takes row) as (λ b. list_any (hits p n) (changed f.item (hidden f.sees (cond b (record { rows = k ∷ []; item = row; seen = true } ∷ cut f.takes (of_rows (k + 1) rows)) (cut f.takes (of_rows (k + 1) rows)))))
+    ≡ (((b && f.sees row) && p (f.item row)) && nat_eq k n || list_any (hits p n) (made f (k + 1) rows))) [
+      | true ↦ ap (λ t. ((f.sees row && p (f.item row)) && t) || list_any (hits p n) (made f (k + 1) rows)) (or-false (nat_eq k n))
+      | false ↦ refl
+    ]
+
+other_number : (k n : ℕ) → k < n → nat_eq k n ≡ false
+other_number k n lt = grind (arith, nat_tests)
+
+other_number' : (k n : ℕ) → n < k → nat_eq k n ≡ false
+other_number' k n lt = grind (arith, nat_tests)
+
+same_number : (k : ℕ) → nat_eq k k ≡ true
+same_number k = grind (arith, nat_tests)
+
+-- rows have no number before the first
+made_before : (p : Item → Bool) (f : RowForm) (k : ℕ) (rows : List Item) (n : ℕ) → n < k → list_any (hits p n) (made f k rows) ≡ false
+made_before p f k [] n lt = refl
+made_before p f k (row ∷ rows) n lt =
+    let rest : list_any (hits p n) (made f (k + 1) rows) ≡ false = made_before p f (k + 1) rows n (omega arith) in
+    made_head p f k row rows n ∙ ap (λ t. is_row_hit p f row && t || list_any (hits p n) (made f (k + 1) rows)) (other_number' k n lt) ∙ ap (λ t. t || list_any (hits p n) (made f (k + 1) rows)) (and-false (is_row_hit p f row)) ∙ rest
+
+made_at : (p : Item → Bool) (f : RowForm) (k : ℕ) (row : Item) (rows : List Item) → list_any (hits p k) (made f k (row ∷ rows)) ≡ is_row_hit p f row
+made_at p f k row rows =
+    made_head p f k row rows k
+    ∙ ap (λ t. is_row_hit p f row && t || list_any (hits p k) (made f (k + 1) rows)) (same_number k)
+    ∙ ap (λ t. t || list_any (hits p k) (made f (k + 1) rows)) (and-true (is_row_hit p f row))
+    ∙ ap (λ t. is_row_hit p f row || t) (made_before p f (k + 1) rows k (omega arith))
+    ∙ or-false (is_row_hit p f row)
+
+made_after : (p : Item → Bool) (f : RowForm) (k : ℕ) (row : Item) (rows : List Item) (n : ℕ) → k < n → list_any (hits p n) (made f k (row ∷ rows)) ≡ list_any (hits p n) (made f (k + 1) rows)
+made_after p f k row rows n lt =
+    made_head p f k row rows n
+    ∙ ap (λ t. is_row_hit p f row && t || list_any (hits p n) (made f (k + 1) rows)) (other_number k n lt)
+    ∙ ap (λ t. t || list_any (hits p n) (made f (k + 1) rows)) (and-false (is_row_hit p f row))
+
+-- numbers that hit rows as a form's candidates do
+abbrev HitsAs : (Item → Bool) → RowForm → List ℕ → ℕ → List Item → Type 0
+HitsAs p f gone k rows = (n : ℕ) → k ≤ n → goes gone n ≡ list_any (hits p n) (made f k rows)
+
+rows_left : (p : Item → Bool) (f : RowForm) (gone : List ℕ) (k : ℕ) (rows : List Item) → HitsAs p f gone k rows → without_rows gone k rows ≡ filter (λ row. not (is_row_hit p f row)) rows
+rows_left p f gone k [] as_made = refl
+rows_left p f gone k (row ∷ rows) as_made =
+    let rest : without_rows gone (k + 1) rows ≡ filter (λ r. not (is_row_hit p f r)) rows = rows_left p f gone (k + 1) rows (λ n le. as_made n (omega arith) ∙ made_after p f k row rows n (omega arith)) in
+    let here : goes gone k ≡ is_row_hit p f row = as_made k (omega arith) ∙ made_at p f k row rows in
+    ap (λ b. cond b (without_rows gone (k + 1) rows) (row ∷ without_rows gone (k + 1) rows)) here
+    ∙ ap (λ rs. cond (is_row_hit p f row) rs (row ∷ rs)) rest
+    ∙ flip (is_row_hit p f row) (filter (λ r. not (is_row_hit p f r)) rows)
+  where
+    flip : (b : Bool) (rs : List Item) → cond b rs (row ∷ rs) ≡ cond (not b) (row ∷ rs) rs
+    flip true rs = refl
+    flip false rs = refl
+
+-- the rows that stay once those went that a view shows whose items pass
+pub without_hits : (world : World) (v : View) (p : Item → Bool) → without_rows (all_hits p (candidates world v)) 0 (base_at world (base_under v)).rows ≡ filter (λ row. not (is_row_hit p (form_of v) row)) (base_at world (base_under v)).rows
+without_hits world v p =
+    let f : RowForm = form_of v in
+    let rows : List Item = (base_at world (base_under v)).rows in
+    rows_left p f (all_hits p (candidates world v)) 0 rows
+    (λ n le. ap (λ (cs : List Candidate). goes (all_hits p cs) n) (row_law world v) ∙ goes_turned p n f.turned (made f 0 rows))
+
+-- the edit that removes those rows
+pub edited_hits : (world : World) (v : View) (p : Item → Bool) (b : ℕ) → b ≡ base_under v
+    → with_rows (base_at world b) (filter (λ row. not (is_row_hit p (form_of v) row)) (base_at world b).rows) (nat_lt (length (filter (λ row. not (is_row_hit p (form_of v) row)) (base_at world b).rows)) (length (base_at world b).rows))
+    ≡ edited (base_at world b) (removing (all_hits p (candidates world v)))
+edited_hits world v p b under =
+    rw under
+    (sym (edited_removing (base_at world (base_under v)) (all_hits p (candidates world v))
+    ∙ ap (λ (rows : List Item). with_rows (base_at world (base_under v)) rows (nat_lt (length rows) (length (base_at world (base_under v)).rows))) (without_hits world v p)))
+
+-- a base from which those rows were dropped
+pub dropped : (world : World) (v : View) (p : Item → Bool) (b : ℕ) (at new : Base) → b < length world → b ≡ base_under v → at ≡ get_or world b at
+    → new ≡ with_rows at (filter (λ row. not (is_row_hit p (form_of v) row)) at.rows) (nat_lt (length (filter (λ row. not (is_row_hit p (form_of v) row)) at.rows)) (length at.rows))
+    → new ≡ edited (base_at world b) (removing (all_hits p (candidates world v)))
+dropped world v p b at new lt under read is =
+    is
+    ∙ ap (λ (it : Base). with_rows it (filter (λ row. not (is_row_hit p (form_of v) row)) it.rows) (nat_lt (length (filter (λ row. not (is_row_hit p (form_of v) row)) it.rows)) (length it.rows))) (sym (read_at world b at lt read))
+    ∙ edited_hits world v p b under
+
+-- ---- one row, step by step
+
+-- what a step of a family makes of what the view below it has
+abbrev pub through : Family → Step → Option Found → Option Found
+through family step None = None
+through family step (Some d) = cond (is_cut_in family step d.item) None (Some (found_over family step d))
+
+pub found_step : (family : Family) (step : Step) (f : RowForm) (row : Item) → found_of_row (form_over family step f) row ≡ through family step (found_of_row f row)
+found_step Same step f row = elim (f.takes row) as (λ b. cond b (Some (found_row_by f row)) None ≡ through Same step (cond b (Some (found_row_by f row)) None)) [ true ↦ refl | false ↦ refl ]
+found_step Changed step f row =
+    elim (f.takes row) as (λ b. cond b (Some (found_row_by (form_over Changed step f) row)) None ≡ through Changed step (cond b (Some (found_row_by f row)) None)) [ true ↦ refl | false ↦ refl ]
+found_step Turned step f row = elim (f.takes row) as (λ b. cond b (Some (found_row_by f row)) None ≡ through Turned step (cond b (Some (found_row_by f row)) None)) [ true ↦ refl | false ↦ refl ]
+found_step Hidden step f row = elim (f.takes row) as (λ b. cond b (Some (found_row_by (form_over Hidden step f) row)) None ≡ through Hidden step (cond b (Some (found_row_by f row)) None)) [ true ↦ refl | false ↦ refl ]
+found_step Cut step f row =
+    elim (f.takes row) as (λ b. cond (b && passes step (f.item row)) (Some (found_row_by (form_over Cut step f) row)) None ≡ through Cut step (cond b (Some (found_row_by f row)) None)) [
+      | true ↦ elim (passes step (f.item row)) as (λ b. cond b (Some (found_row_by (form_over Cut step f) row)) None ≡ cond (not b) None (Some (found_over Cut step (found_row_by f row)))) [ true ↦ refl | false ↦ refl ]
+      | false ↦ refl
+    ]
+
+-- a row that a form leaves out is not hit
+pub hit_none : (p : Item → Bool) (f : RowForm) (row : Item) → found_of_row f row ≡ None → is_row_hit p f row ≡ false
+hit_none p f row none = by (f.takes row) none
+  where
+    by : (t : Bool) → cond t (Some (found_row_by f row)) None ≡ None → ((t && f.sees row) && p (f.item row)) ≡ false
+    by true h = absurd (cc)
+    by false h = refl
+
+-- and another one is where it is seen and its item passes
+pub hit_some : (p : Item → Bool) (f : RowForm) (row : Item) (d : Found) → found_of_row f row ≡ Some d → is_row_hit p f row ≡ (d.seen && p d.item)
+hit_some p f row d some = by (f.takes row) some
+  where
+    by : (t : Bool) → cond t (Some (found_row_by f row)) None ≡ Some d → ((t && f.sees row) && p (f.item row)) ≡ (d.seen && p d.item)
+    by true h = ap (λ (e : Found). e.seen && p e.item) (same_Some (found_row_by f row) d h)
+    by false h = absurd (cc)
