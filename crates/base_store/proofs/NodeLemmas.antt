@@ -1,14 +1,13 @@
--- What a store's lists have at their places, and what another base adds to them.
-use Rattle.std.proofs.Common.{◌≡◌, ℕ, ◌+◌, ◌-◌, ◌<◌, ◌≤◌, true, List, [], ◌∷◌, ◌++◌, length, get_or, refl, ap, sym, ◌∙◌, subst, inl, inr, arith, length-append, zero, suc}
+-- What a store's lists have at their places, and what a node that is added stands on.
+use Rattle.std.proofs.Common.{◌≡◌, ℕ, ◌+◌, ◌-◌, ◌<◌, ◌≤◌, List, [], ◌∷◌, ◌++◌, length, get_or, refl, ap, ◌∙◌, subst, arith, length-append, zero, suc}
 use Rattle.std.specs.Prelude.{slice_get, Some}
-use Rattle.std.proofs.lemmas.Option.{same_Some, slice_get-get_or, slice_get_within}
-use Rattle.std.proofs.lemmas.Bool.{cases_lt}
-use Rattle.std.proofs.lemmas.List.{get_or-append_right, get_or_append_left, get_or_push, append-nil}
-use Rattle.map_views.specs.Views.{base, over}
-use Rattle.map_views.specs.declared.steps.Step.{Step}
+use Rattle.std.proofs.lemmas.Option.{same_Some, slice_get-get_or}
+use Rattle.std.proofs.lemmas.List.{get_or-append_right, get_or_append_left, get_or_push}
+use Rattle.view_steps.specs.Views.{base, over}
+use Rattle.view_steps.specs.declared.steps.Step.{Step}
 use Rattle.base_store.specs.Nodes.{IsBelow, view_at}
 use Rattle.base_store.proofs.ViewLemmas.{view_at-node, view_at-append}
-use Rattle.base_store.specs.Stored.{Place, Stored, IsBuilt, AllThere, view_in}
+use Rattle.base_store.specs.Stored.{Stored, view_in}
 use Rattle.base_store.specs.declared.store.Made.{Made}
 use Rattle.base_store.specs.declared.store.Made.TheVariants as made
 
@@ -21,7 +20,7 @@ pub in_front : {X : Type 0} (xs ys : List X) (n : ℕ) (d : X) → n < length xs
 in_front xs ys n d lt = slice_get-get_or (xs ++ ys) n d (omega (arith, length-append xs ys)) ∙ ap Some (get_or_append_left xs ys d n lt)
 
 -- what stands in a list with one more element stands in the list, or is that element
-at_push : {X : Type 0} (xs : List X) (y x : X) (n : ℕ) → slice_get (xs ++ y ∷ []) n ≡ Some x → (n < length xs → slice_get xs n ≡ Some x) × (length xs ≤ n → (y ≡ x) × (n ≡ length xs))
+pub at_push : {X : Type 0} (xs : List X) (y x : X) (n : ℕ) → slice_get (xs ++ y ∷ []) n ≡ Some x → (n < length xs → slice_get xs n ≡ Some x) × (length xs ≤ n → (y ≡ x) × (n ≡ length xs))
 at_push [] y x zero is = (λ lt. absurd (omega arith), λ le. (same_Some y x is, refl))
 at_push [] y x (suc n) is = cc
 at_push (w ∷ ws) y x zero is = (λ lt. is, λ le. absurd (omega arith))
@@ -31,54 +30,20 @@ at_push (w ∷ ws) y x (suc n) is =
       λ le. let p = rest.1 (omega arith) in (p.0, ap suc p.1),
     )
 
-below_more : (bases more n : ℕ) (node : Made) → bases ≤ more → IsBelow bases n node → IsBelow more n node
+pub below_more : (bases more n : ℕ) (node : Made) → bases ≤ more → IsBelow bases n node → IsBelow more n node
 below_more bases more n (made.Base b) le h = let lt : b < bases = h in omega arith
 below_more bases more n (made.Over step parent) le h = h
 
--- a base and its node added to what is built
-pub built_more : (places : List Place) (nodes temporary : List Made) (place : Place) (handles handles' : ℕ) → IsBuilt (record { places = places; nodes = nodes ++ temporary; lasting = length nodes; handles = handles })
-    → IsBuilt (record { places = places ++ place ∷ []; nodes = (nodes ++ made.Base (length places) ∷ []) ++ []; lasting = length (nodes ++ made.Base (length places) ∷ []); handles = handles' })
-built_more places nodes temporary place handles handles' h = record {
-  below = λ n node is. by n node is;
-  lasting = omega (arith, length-append (nodes ++ made.Base (length places) ∷ []) []);
-}
-  where
-    grown : length (places ++ place ∷ []) ≡ length places + 1
-    grown = length-append places (place ∷ [])
-
-    front : (n : ℕ) (node : Made) → slice_get nodes n ≡ Some node → slice_get (nodes ++ temporary) n ≡ Some node
-    front n node is =
-        let lt : n < length nodes = slice_get_within nodes n node is in
-        in_front nodes temporary n node lt ∙ sym (slice_get-get_or nodes n node lt) ∙ is
-
-    whole : (n : ℕ) (node : Made) → slice_get ((nodes ++ made.Base (length places) ∷ []) ++ []) n ≡ Some node → slice_get (nodes ++ made.Base (length places) ∷ []) n ≡ Some node
-    whole n node is = subst (λ (ns : List Made). slice_get ns n ≡ Some node) (append-nil (nodes ++ made.Base (length places) ∷ [])) is
-
-    by : (n : ℕ) (node : Made) → slice_get ((nodes ++ made.Base (length places) ∷ []) ++ []) n ≡ Some node → IsBelow (length (places ++ place ∷ [])) n node
-    by n node is =
-        let at = at_push nodes (made.Base (length places)) node n (whole n node is) in
-        elim (cases_lt n (length nodes)) [
-          | inl lt ↦ below_more (length places) (length (places ++ place ∷ [])) n node (omega (arith, grown)) (h.below n node (front n node (at.0 lt)))
-          | inr le ↦ subst (λ (m : Made). IsBelow (length (places ++ place ∷ [])) n m) (at.1 le).0 (omega (arith, grown))
-        ]
-
--- another base that stands at its place
-pub all_more : (places : List Place) (place : Place) → AllThere places → place.is_there ≡ true → AllThere (places ++ place ∷ [])
-all_more [] place all this zero lt = this
-all_more [] place all this (suc b) lt = absurd (omega arith)
-all_more (first ∷ places) place all this zero lt = all zero (omega arith)
-all_more (first ∷ places) place all this (suc b) lt = all_more places place (λ p q. all (suc p) (omega arith)) this b (omega arith)
-
 -- a node that is a base, and one that is a step, as views
-pub base_node : (s : Stored) (n b : ℕ) (node : Made) → node ≡ made.Base b → slice_get s.nodes n ≡ Some node → IsBelow (length s.places) n node → (view_in s n ≡ base b) × (b < length s.places)
+pub base_node : (s : Stored) (n b : ℕ) (node : Made) → node ≡ made.Base b → slice_get s.nodes n ≡ Some node → IsBelow (length s.world) n node → (view_in s n ≡ base b) × (b < length s.world)
 base_node s n b node e is below =
-    let below' : IsBelow (length s.places) n (made.Base b) = subst (λ (m : Made). IsBelow (length s.places) n m) e below in
-    (view_at-node s.nodes n (length s.places) (made.Base b) (is ∙ ap Some e) below', below')
+    let below' : IsBelow (length s.world) n (made.Base b) = subst (λ (m : Made). IsBelow (length s.world) n m) e below in
+    (view_at-node s.nodes n (length s.world) (made.Base b) (is ∙ ap Some e) below', below')
 
-pub step_node : (s : Stored) (n parent : ℕ) (step : Step) (node : Made) → node ≡ made.Over step parent → slice_get s.nodes n ≡ Some node → IsBelow (length s.places) n node → (view_in s n ≡ over step (view_in s parent)) × (parent < n)
+pub step_node : (s : Stored) (n parent : ℕ) (step : Step) (node : Made) → node ≡ made.Over step parent → slice_get s.nodes n ≡ Some node → IsBelow (length s.world) n node → (view_in s n ≡ over step (view_in s parent)) × (parent < n)
 step_node s n parent step node e is below =
-    let below' : IsBelow (length s.places) n (made.Over step parent) = subst (λ (m : Made). IsBelow (length s.places) n m) e below in
-    (view_at-node s.nodes n (length s.places) (made.Over step parent) (is ∙ ap Some e) below', below')
+    let below' : IsBelow (length s.world) n (made.Over step parent) = subst (λ (m : Made). IsBelow (length s.world) n m) e below in
+    (view_at-node s.nodes n (length s.world) (made.Over step parent) (is ∙ ap Some e) below', below')
 
 -- the node that was added last
 added_node : (nodes : List Made) (node : Made) → slice_get (nodes ++ node ∷ []) (length nodes) ≡ Some node

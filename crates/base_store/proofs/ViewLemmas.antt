@@ -4,7 +4,7 @@ use Rattle.std.specs.Prelude.{slice_get, fold, Some}
 use Rattle.std.proofs.lemmas.Option.{same_Some}
 use Rattle.std.proofs.lemmas.List.{get_or_append_left, get_or_push, take-append-drop}
 use Rattle.std.proofs.lemmas.Grind.{fold-append}
-use Rattle.map_views.specs.Views.{base, over}
+use Rattle.view_steps.specs.Views.{base, over}
 use Rattle.base_store.specs.Nodes.{made_of, view_of, view_at, IsBelow}
 use Rattle.base_store.specs.declared.store.Made.{Made}
 use Rattle.base_store.specs.declared.store.Made.TheVariants.{Base, Over}

@@ -1,7 +1,9 @@
-pub mod Bases
-pub mod Edits
-pub mod Nodes
+pub mod Adding
+pub mod BaseRows
+pub mod KeyLines
+pub mod Hits
 pub mod Limits
+pub mod Nodes
 pub mod Stored
-pub mod SlotView
 pub mod Unfolding
+pub mod Journals

@@ -1,8 +1,8 @@
 -- Nodes unfolded: what is made of each node from what is made of the nodes before it.
-use Rattle.std.specs.Prelude.{ℕ, ◌+◌, ◌<◌, List, [], ◌∷◌, ◌++◌, get_or, fold}
+use Rattle.std.specs.Prelude.{ℕ, ◌<◌, List, [], ◌∷◌, ◌++◌, get_or, fold}
 use Rattle.base_store.specs.declared.store.Made.{Made}
 use Rattle.base_store.specs.declared.store.Made.TheVariants.{Base, Over}
-use Rattle.map_views.specs.Views.{View, base, over}
+use Rattle.view_steps.specs.Views.{View, base, over}
 
 -- the list of what is made of the nodes in turn, where `make at node` may ask for what stands before it
 abbrev pub made_of : {X : Type 0} → X → ((ℕ → X) → Made → X) → List Made → List X
@@ -15,14 +15,6 @@ view_of at (Over step parent) = over step (at parent)
 -- the view of node n
 unfoldable pub view_at : List Made → ℕ → View
 view_at nodes n = get_or (made_of (base 0) view_of nodes) n (base 0)
-
--- the length of the path of steps of node n
-abbrev pub path_of : (ℕ → ℕ) → Made → ℕ
-path_of at (Base b) = 0
-path_of at (Over step parent) = at parent + 1
-
-unfoldable pub path_at : List Made → ℕ → ℕ
-path_at nodes n = get_or (made_of 0 path_of nodes) n 0
 
 -- the base of node n is one of so many, and its parent stands before it
 abbrev pub IsBelow : ℕ → ℕ → Made → Type 0

@@ -4,10 +4,11 @@
 //! live: what it shows is what its base holds at the moment.
 #![tactic(auto)]
 
-mod bases;
+mod base_rows;
 mod refs;
+mod row_test;
 mod store;
 
-pub use bases::Base;
 pub use refs::{AnyRef, BaseId, Node};
+pub use row_test::RowTest;
 pub use store::Store;

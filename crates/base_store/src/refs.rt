@@ -1,7 +1,7 @@
 //! The numbers by which a store's bases and views are named, and how a view was made.
 
-use map_views::Step;
 use std::marker::Model;
+use view_steps::Step;
 
 /// A view of a store. Contracts see its number.
 #[derive(Clone, Copy, Debug)]

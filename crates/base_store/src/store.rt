@@ -1,18 +1,31 @@
-ghost use Rattle.std.specs.Prelude.{◌≡◌, ◌+◌, ◌++◌, ◌∷◌, [], ◌<◌, ◌≤◌, ◌^◌, ◌⊎◌, length, OnOk, OnErr, IfOk, IfErr, Some, slice_get, slice_set};
-ghost use Rattle.base_store.specs.Bases.{rows_of, IsOfKind};
-ghost use Rattle.base_store.specs.Stored.{AllThere, IsReady, IsThere, IsAway, there, away, with_rows, world_of, view_in, with_base, with_kept, with_node, with_place, without_temporary};
-ghost use Rattle.base_store.specs.Limits.{rows_in, most_rows, most_handles};
+ghost use Rattle.std.specs.Prelude.{◌≡◌, ◌+◌, ◌++◌, ◌∷◌, [], ◌<◌, ◌≤◌, ◌⊎◌, length, OnOk, OnErr, IfOk, IfErr, IsSome, None, Some, slice_get};
+ghost use Rattle.base_store.specs.Stored.{view_in, with_base, with_kept, with_node, without_temporary};
+ghost use Rattle.base_store.specs.Limits.{most_handles};
 ghost use Rattle.base_store.specs.Unfolding.{Unfolds};
 ghost use Rattle.base_store.specs.Nodes.{IsBelow};
-ghost use Rattle.base_store.specs.declared.store.Made.TheVariants.{Over as step_node};
-ghost use Rattle.map_views.specs.Views.{base, over, base_at, base_under, path, shape_at, flags_at};
+ghost use Rattle.base_store.specs.BaseRows.{kind_of, rows_of, AreRowsOf};
+ghost use Rattle.base_store.specs.declared.store.Made.TheVariants.{Base as base_node, Over as step_node};
+ghost use Rattle.view_steps.specs.KeptSteps.{order_at, window_at, IsKept, IsMade};
+ghost use Rattle.view_steps.specs.Limits.{rows_in, most_rows};
+ghost use Rattle.view_steps.specs.Places.{HasKeys};
+ghost use Rattle.view_steps.specs.Steps as table;
+ghost use Rattle.view_steps.specs.Views.{base, over, base_at, base_under, empty_base, path, shape_at, flags_at};
 
-use crate::{AnyRef, Base, BaseId, Node};
+mod reading;
+mod shown;
+mod slots;
+mod writing;
+
+use crate::base_rows::BaseRows;
+use crate::{AnyRef, BaseId, Node};
 use arrayvec::ArrayVec;
-use elem::NoMemory;
-use map_views::{Flags, Kind, Refusal, Shape, Step, apply, flags_after, shape_of_kind};
+use elem::{Cut, NoMemory, Window};
 use std::alloc::Global;
 use std::marker::Model;
+use view_steps::{
+    Flags, Kind, Order, Refusal, Shape, Step, apply, flags_after, order_of_kind, shape_of_kind,
+    window_over,
+};
 
 /// A node, as it is kept: the base of a number, or a step over the node of a number.
 #[derive(Clone, Copy, Debug)]
@@ -27,23 +40,21 @@ impl Default for Made {
     }
 }
 
-/// Where a base stands while it is not being changed.
+/// A base: its rows, how often one was added or removed, and whether it is frozen.
 #[derive(Drop)]
 pub struct Slot {
-    kind: Kind,
+    rows: BaseRows,
     change: u64,
     frozen: bool,
-    base: Option<Base>,
 }
 
 impl Model for Slot {
-    ghost use Rattle.base_store.specs.Stored.{Place};
+    ghost use Rattle.base_store.specs.BaseRows.{kind_of, rows_of};
+    ghost use Rattle.view_steps.specs.Views.{Base};
 
-    ghost Value = { Place };
+    ghost Value = { Base };
 
-    ghost use Rattle.base_store.specs.SlotView.{slot_view};
-
-    ghost view = { slot_view };
+    ghost view = { λ s. record { kind = kind_of s.rows; rows = rows_of s.rows; change = s.change; frozen = s.frozen } };
 }
 
 /// Bases, and the nodes over them.
@@ -72,15 +83,20 @@ impl Model for Store {
 
     ghost Value = { Stored };
 
-    ghost view = { λ s. record { places = s.slots.items; nodes = s.nodes.items ++ s.temporary.items; lasting = length s.nodes.items; handles = s.handles } };
+    ghost use Rattle.base_store.specs.contracts.store.Made as made;
+    ghost use Rattle.std.specs.Coded.{codes};
 
-    ghost invariant = { λ s. IsSound (record { places = s.slots.items; nodes = s.nodes.items ++ s.temporary.items; lasting = length s.nodes.items; handles = s.handles }) s.rows };
+    ghost coded = { Prim.hlevel (codes, made.the_row.coded) };
+
+    ghost view = { λ s. record { world = s.slots.items; nodes = s.nodes.items ++ s.temporary.items; lasting = length s.nodes.items; handles = s.handles } };
+
+    ghost invariant = { λ s. IsSound (record { world = s.slots.items; nodes = s.nodes.items ++ s.temporary.items; lasting = length s.nodes.items; handles = s.handles }) s.rows };
 }
 
 impl Store {
     /// A store without bases.
     pub fn empty(alloc: Global) -> Store
-        ensures { result ≡ record { places = []; nodes = []; lasting = 0; handles = 0 } }
+        ensures { result ≡ record { world = []; nodes = []; lasting = 0; handles = 0 } }
     {
         Store {
             alloc,
@@ -98,10 +114,8 @@ impl Store {
     ///
     /// `Limit` where there is no handle left, and `NoMemory`.
     pub fn new_base(&mut self, kind: Kind) -> Result<AnyRef, Refusal>
-        requires { AllThere self.old.places }
         ensures number { IfOk result (λ n. n ≡ self.old.lasting) }
         ensures ok { OnOk result (self.new ≡ with_base self.old kind) }
-        ensures ready { IsReady self.new.places }
         ensures room { OnOk result (self.old.handles < most_handles) }
         ensures err { OnErr result (self.new ≡ self.old) }
         ensures cause { IfErr result (λ why. ((why ≡ Refusal.Limit) × (self.old.handles ≡ most_handles)) ⊎ (why ≡ Refusal.NoMemory)) }
@@ -109,30 +123,25 @@ impl Store {
         if self.handles == MOST_HANDLES {
             return Err(Refusal::Limit);
         }
-        let Ok(base) = Base::new(self.alloc, kind) else {
+        let Ok(rows) = BaseRows::new(self.alloc, kind) else {
             return Err(Refusal::NoMemory);
         };
-        if self.slots.reserve(1).is_err() || self.nodes.reserve(1).is_err() {
-            return Err(Refusal::NoMemory);
-        }
         let number = self.nodes.len();
-        let base_number = self.slots.as_slice().len();
+        let Ok(()) = add_base(&mut self.slots, &mut self.nodes, rows) else {
+            return Err(Refusal::NoMemory);
+        };
         self.temporary.clear();
-        self.nodes.push_reserved(Made::Base(base_number));
-        self.slots.push_reserved(Slot {
-            kind,
-            change: 0,
-            frozen: false,
-            base: Some(base),
-        });
         self.handles += 1;
         Ok(AnyRef::at(number))
     }
 
-    /// A temporary node: a step over a node. It takes no memory.
+    /// A temporary node: a step over a node, as the rule of `within` leaves the step. It takes no memory.
     pub fn new_view(&mut self, parent: AnyRef, step: &Step) -> AnyRef
         requires parent { parent < length self.old.nodes }
         requires room { length self.old.nodes < self.old.lasting + 32 }
+        requires given { IsSome (table.apply (shape_at self.old.world (view_in self.old parent)) step.now) }
+        requires kept { IsKept self.old.world (view_in self.old parent) step.now }
+        requires short { path (view_in self.old parent) < 32 }
         ensures number { result ≡ length self.old.nodes }
         ensures made { self.new ≡ with_node self.old (step_node step.now parent) }
         ensures view { view_in self.new result ≡ over step.now (view_in self.old parent) }
@@ -181,13 +190,6 @@ impl Store {
         Ok(())
     }
 
-    /// How many rows may still come.
-    pub fn rows_left(&self) -> usize
-        ensures { result + rows_in (world_of self.now.places) ≡ most_rows }
-    {
-        MOST_ROWS - self.rows
-    }
-
     /// How a node was made.
     pub fn node(&self, n: AnyRef) -> Node<'_>
         requires { n < length self.now.nodes }
@@ -205,20 +207,33 @@ impl Store {
     fn made(&self, n: usize) -> &Made
         requires { n < length self.now.nodes }
         ensures at { slice_get self.now.nodes n ≡ Some result.now }
-        ensures below { IsBelow (length self.now.places) n result.now }
+        ensures below { IsBelow (length self.now.world) n result.now }
     {
         node_among(self.nodes.as_slice(), self.temporary.as_slice(), n)
     }
 
-    /// The base under a node.
+    /// The base under a node. What stands there is sound: each step is one that the view below it has, and no two rows
+    /// of a set or map have the same key.
     pub fn base_of(&self, n: AnyRef) -> BaseId
         requires { n < length self.now.nodes }
         ensures base { result ≡ base_under (view_in self.now n) }
-        ensures within { result < length self.now.places }
+        ensures within { result < length self.now.world }
+        ensures made { IsMade self.now.world (view_in self.now n) }
+        ensures keys { HasKeys (base_at self.now.world result) }
+    {
+        // What is sound about a store is known once a field of it is read.
+        let _ = &self.alloc;
+        self.root_of(n)
+    }
+
+    fn root_of(&self, n: AnyRef) -> BaseId
+        requires { n < length self.now.nodes }
+        ensures base { result ≡ base_under (view_in self.now n) }
+        ensures within { result < length self.now.world }
     {
         match self.node(n) {
             Node::Base(b) => b,
-            Node::Step { parent, .. } => self.base_of(parent),
+            Node::Step { parent, .. } => self.root_of(parent),
         }
     }
 
@@ -237,7 +252,7 @@ impl Store {
     /// The shape of a node.
     pub fn shape(&self, n: AnyRef) -> Shape
         requires { n < length self.now.nodes }
-        ensures { result ≡ shape_at (world_of self.now.places) (view_in self.now n) }
+        ensures { result ≡ shape_at self.now.world (view_in self.now n) }
     {
         match self.node(n) {
             Node::Base(b) => shape_of_kind(self.kind(b)),
@@ -254,7 +269,7 @@ impl Store {
     /// What a node allows.
     pub fn flags_of(&self, n: AnyRef) -> Flags
         requires { n < length self.now.nodes }
-        ensures { result ≡ flags_at (world_of self.now.places) (view_in self.now n) }
+        ensures { result ≡ flags_at self.now.world (view_in self.now n) }
     {
         match self.node(n) {
             Node::Base(b) => self.base_flags(b),
@@ -267,8 +282,8 @@ impl Store {
     }
 
     fn base_flags(&self, b: BaseId) -> Flags
-        requires { b < length self.now.places }
-        ensures { result ≡ flags_at (world_of self.now.places) (base b) }
+        requires { b < length self.now.world }
+        ensures { result ≡ flags_at self.now.world (base b) }
     {
         let open = !self.slots[b.number()].frozen;
         Flags {
@@ -278,86 +293,92 @@ impl Store {
         }
     }
 
+    /// The window of a node: that of the last `within` on its path.
+    pub fn window_of(&self, n: AnyRef) -> Window
+        requires { n < length self.now.nodes }
+        ensures { result ≡ window_at (view_in self.now n) }
+    {
+        match self.node(n) {
+            Node::Base(_) => Window {
+                lo: Cut::Start,
+                hi: Cut::End,
+            },
+            Node::Step { step, parent } => window_over(step, &self.window_of(parent)),
+        }
+    }
+
+    /// The order in which a node's windows are read.
+    pub fn order_of(&self, n: AnyRef) -> Order
+        requires { n < length self.now.nodes }
+        ensures { result ≡ order_at self.now.world (view_in self.now n) }
+    {
+        order_of_kind(self.kind(self.base_of(n)))
+    }
+
     /// The kind of a base.
     pub fn kind(&self, b: BaseId) -> Kind
-        requires { b < length self.now.places }
-        ensures { result ≡ (base_at (world_of self.now.places) b).kind }
+        requires { b < length self.now.world }
+        ensures { result ≡ (base_at self.now.world b).kind }
     {
-        self.slots[b.number()].kind
+        self.slots[b.number()].rows.kind()
     }
 
     /// How often a row of a base was added or removed.
     pub fn change(&self, b: BaseId) -> u64
-        requires { b < length self.now.places }
-        ensures { result ≡ (base_at (world_of self.now.places) b).change }
+        requires { b < length self.now.world }
+        ensures { result ≡ (base_at self.now.world b).change }
     {
         self.slots[b.number()].change
     }
 
-    /// A base, to be read.
-    pub fn base(&self, b: BaseId) -> &Base
-        requires { IsThere self.now.places b }
-        ensures rows { rows_of result.now ≡ (base_at (world_of self.now.places) b).rows }
-        ensures kind { IsOfKind (base_at (world_of self.now.places) b).kind result.now }
+    /// How many rows a base has.
+    pub fn len(&self, b: BaseId) -> usize
+        requires { b < length self.now.world }
+        ensures len { result ≡ length (base_at self.now.world b).rows }
+        ensures few { result ≤ most_rows }
     {
-        match &self.slots[b.number()].base {
-            Some(base) => base,
-            None => unreachable!(),
-        }
+        self.slots[b.number()].rows.len()
     }
 
-    /// Moves a base out, to be changed, and leaves its place empty until `finish`.
-    pub fn take_base(&mut self, b: BaseId) -> Base
-        requires { IsThere self.old.places b }
-        ensures rows { rows_of result ≡ (base_at (world_of self.old.places) b).rows }
-        ensures kind { IsOfKind (base_at (world_of self.old.places) b).kind result }
-        ensures rest { self.new ≡ with_place self.old b (away (base_at (world_of self.old.places) b)) }
+    /// Does nothing; its contract says that the rows of a base are such as its kind has.
+    pub fn rows_fit(&self, b: BaseId)
+        requires { b < length self.now.world }
+        ensures { AreRowsOf (base_at self.now.world b).kind (base_at self.now.world b).rows }
     {
-        let base = take_out(&mut self.slots, b.number());
-        self.rows -= base.len();
-        base
+        let _ = &self.alloc;
+        self.slots[b.number()].rows.rows_fit();
     }
 
-    /// Puts a base back, counts its rows, and raises its change number where a row was added or removed.
-    pub fn finish(&mut self, b: BaseId, base: Base, structural: bool)
-        requires away { IsAway self.old.places b }
-        requires kind { IsOfKind (base_at (world_of self.old.places) b).kind base }
-        requires change { (base_at (world_of self.old.places) b).change < 2 ^ 63 }
-        requires few { rows_in (world_of self.old.places) + length (rows_of base) ≤ most_rows }
-        ensures after { self.new ≡ with_place self.old b (there (with_rows (base_at (world_of self.old.places) b) (rows_of base) structural)) }
-        ensures few { rows_in (world_of self.new.places) ≤ most_rows }
+    /// The allocator of the store.
+    pub fn alloc(&self) -> Global {
+        self.alloc
+    }
+
+    /// How many rows may still come.
+    pub fn rows_left(&self) -> usize
+        ensures { result + rows_in self.now.world ≡ most_rows }
     {
-        self.rows += base.len();
-        put_back(&mut self.slots, b.number(), base, structural);
+        MOST_ROWS - self.rows
     }
 }
 
-/// Takes a base out of its place.
-fn take_out(slots: &mut Vec<Slot>, b: usize) -> Base
-    requires there { IsThere slots.old.items b }
-    ensures rows { rows_of result ≡ (base_at (world_of slots.old.items) b).rows }
-    ensures kind { IsOfKind (base_at (world_of slots.old.items) b).kind result }
-    ensures rest { slots.new.items ≡ slice_set slots.old.items b (away (base_at (world_of slots.old.items) b)) }
+/// Adds a base without rows, and its node.
+fn add_base(slots: &mut Vec<Slot>, nodes: &mut Vec<Made>, rows: BaseRows) -> Result<(), NoMemory>
+    requires { rows_of rows ≡ [] }
+    ensures slots { OnOk result (slots.new.items ≡ slots.old.items ++ empty_base (kind_of rows) ∷ []) }
+    ensures nodes { OnOk result (nodes.new.items ≡ nodes.old.items ++ base_node (length slots.old.items) ∷ []) }
+    ensures err { OnErr result ((slots.new.items ≡ slots.old.items) × (nodes.new.items ≡ nodes.old.items)) }
 {
-    let slot = &mut slots[b];
-    match slot.base.take() {
-        Some(base) => base,
-        None => unreachable!(),
+    let node = Made::Base(slots.as_slice().len());
+    if slots.reserve(1).is_err() || nodes.extend_from_slice(&[node]).is_err() {
+        return Err(NoMemory);
     }
-}
-
-/// Puts a base into its place.
-fn put_back(slots: &mut Vec<Slot>, b: usize, base: Base, structural: bool)
-    requires away { IsAway slots.old.items b }
-    requires kind { IsOfKind (base_at (world_of slots.old.items) b).kind base }
-    requires change { (base_at (world_of slots.old.items) b).change < 2 ^ 63 }
-    ensures { slots.new.items ≡ slice_set slots.old.items b (there (with_rows (base_at (world_of slots.old.items) b) (rows_of base) structural)) }
-{
-    let slot = &mut slots[b];
-    slot.base = Some(base);
-    if structural {
-        slot.change += 1;
-    }
+    slots.push_reserved(Slot {
+        rows,
+        change: 0,
+        frozen: false,
+    });
+    Ok(())
 }
 
 /// The node of a number among the lasting ones, or behind them among the temporary ones.

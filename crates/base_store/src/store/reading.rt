@@ -1,0 +1,56 @@
+//! Reading the bases of a store by their places.
+ghost use Rattle.std.specs.Prelude.{◌≡◌, ◌<◌, ◌≤◌, ◌+◌, Some, length, true};
+ghost use Rattle.view_steps.specs.Kinds.{shape_of_kind};
+ghost use Rattle.view_steps.specs.Lanes.{Follows, IsFrom, Serves, line};
+ghost use Rattle.view_steps.specs.Places as spec;
+ghost use Rattle.view_steps.specs.Shapes.{is_keyed};
+ghost use Rattle.view_steps.specs.Views.{base, base_at};
+ghost use Rattle.view_steps.specs.declared.places.Place.TheVariants as place;
+
+use super::Store;
+use crate::BaseId;
+use elem::{Elem, Steps};
+use std::sync::ledger::Ledger;
+use view_steps::{Item, Lane, Place};
+
+impl Store {
+    /// The place that follows another in a lane of a base, or the first one.
+    pub fn next_place<L: Ledger>(
+        &self,
+        b: BaseId,
+        lane: &Lane,
+        back: bool,
+        from: Option<Place>,
+        steps: &mut Steps<L>,
+    ) -> Option<Place>
+        requires base { b < length self.now.world }
+        requires serves { Serves (base_at self.now.world b).kind lane.now }
+        requires from { IsFrom (line self.now.world (base b) lane.now back) from }
+        ensures next { Follows (line self.now.world (base b) lane.now back) from result }
+        ensures step { steps.new ≤ steps.old + 1 }
+    {
+        self.slots[b.number()]
+            .rows
+            .next_place(lane, back, from, steps)
+    }
+
+    /// The row at a place of a base.
+    pub fn row_at<L: Ledger>(&self, b: BaseId, at: &Place, steps: &mut Steps<L>) -> Option<Item>
+        requires base { b < length self.now.world }
+        requires place { IsFrom (spec.places self.now.world (base b)) (Some at.now) }
+        ensures row { result ≡ spec.row_at (base_at self.now.world b).rows at.now }
+        ensures step { steps.new ≤ steps.old + 1 }
+    {
+        self.slots[b.number()].rows.row_at(at, steps)
+    }
+
+    /// The row of a key of a base, which is a set or a map.
+    pub fn row_of_key<L: Ledger>(&self, b: BaseId, k: &Elem, steps: &mut Steps<L>) -> Option<Item>
+        requires base { b < length self.now.world }
+        requires keyed { is_keyed (shape_of_kind (base_at self.now.world b).kind) ≡ true }
+        ensures row { result ≡ spec.row_at (base_at self.now.world b).rows (place.Key k.now) }
+        ensures step { steps.new ≤ steps.old + 1 }
+    {
+        self.slots[b.number()].rows.row_of_key(k, steps)
+    }
+}

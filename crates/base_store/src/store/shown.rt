@@ -1,0 +1,69 @@
+//! The rows of a base that a view shows, told from each row alone.
+ghost use Rattle.std.specs.Prelude.{◌≡◌, ◌<◌, ◌++◌, length};
+ghost use Rattle.base_store.specs.Hits.{StandBelow};
+ghost use Rattle.base_store.specs.Nodes.{view_at};
+ghost use Rattle.view_steps.specs.RowForm.{form_of, found_of_row, found_through, is_cut, is_row_hit};
+
+use super::{Made, node_among};
+use crate::RowTest;
+use view_steps::{Family, Found, Item, Step, family_of, found_over, passes};
+
+/// The rows that a view shows whose items pass a test.
+#[derive(Drop)]
+pub(super) struct Shown<'a, T> {
+    pub(super) lasting: &'a [Made],
+    pub(super) temporary: &'a [Made],
+    pub(super) n: usize,
+    pub(super) test: &'a T,
+    ghost within: { n < length (lasting.now ++ temporary.now) },
+    ghost below: { StandBelow (lasting.now ++ temporary.now) },
+}
+
+impl<'a, T: RowTest> RowTest for Shown<'a, T> {
+    ghost passes = { λ s row. is_row_hit (T.passes s.test.now) (form_of (view_at (s.lasting.now ++ s.temporary.now) s.n)) row };
+
+    fn test(&self, item: &Item) -> bool {
+        match found_in(self.lasting, self.temporary, self.n, item) {
+            None => false,
+            Some(found) => found.seen && self.test.test(&found.item),
+        }
+    }
+}
+
+/// What a view has of a row.
+fn found_in(lasting: &[Made], temporary: &[Made], n: usize, row: &Item) -> Option<Found>
+    requires within { n < length (lasting.now ++ temporary.now) }
+    requires below { StandBelow (lasting.now ++ temporary.now) }
+    ensures { result ≡ found_of_row (form_of (view_at (lasting.now ++ temporary.now) n)) row.now }
+{
+    match node_among(lasting, temporary, n) {
+        Made::Base(_) => Some(Found {
+            item: *row,
+            seen: true,
+        }),
+        Made::Over(step, parent) => match found_in(lasting, temporary, *parent, row) {
+            None => None,
+            Some(found) => found_above(step, &found),
+        },
+    }
+}
+
+/// What a view by a step has of a row, by what the view below it has of it.
+fn found_above(step: &Step, found: &Found) -> Option<Found>
+    ensures { result ≡ found_through step.now found.now }
+{
+    if left_out(step, &found.item) {
+        return None;
+    }
+    Some(found_over(step, found))
+}
+
+/// Whether a step leaves an item out.
+fn left_out(step: &Step, item: &Item) -> bool
+    ensures { result ≡ is_cut step.now item.now }
+{
+    match family_of(step) {
+        Family::Cut => !passes(step, item),
+        Family::Same | Family::Changed | Family::Turned | Family::Hidden => false,
+    }
+}

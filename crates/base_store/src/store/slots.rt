@@ -1,0 +1,102 @@
+//! What changes one base of a store: its rows, and its change number with them.
+ghost use Rattle.std.specs.Prelude.{◌≡◌, ◌<◌, ◌≤◌, ◌+◌, ◌^◌, ◌⊎◌, ◌∷◌, ℕ, [], List, Some, filter, if◌then◌else◌, length, nat_lt, not, IfErr, OnErr, OnOk};
+ghost use Rattle.base_store.specs.BaseRows.{AreRowsOf, IsFree, IsRowOf, IsSpotIn};
+ghost use Rattle.view_steps.specs.Edits.{adding, edited, removing, with_rows};
+ghost use Rattle.view_steps.specs.Lanes.{IsFrom};
+ghost use Rattle.view_steps.specs.Places.{HasKeys, IsRowAt, places_of};
+ghost use Rattle.view_steps.specs.declared.refusals.Refusal.TheVariants as refusals;
+
+use super::Slot;
+use crate::RowTest;
+use elem::{NoMemory, Steps};
+use std::alloc::Global;
+use std::sync::ledger::Ledger;
+use view_steps::{Item, Place, Refusal, Spot};
+
+impl Slot {
+    /// Puts a row in its spot.
+    pub(super) fn place<L: Ledger>(
+        &mut self,
+        spot: Spot,
+        row: &Item,
+        steps: &mut Steps<L>,
+    ) -> Result<(), NoMemory>
+        requires change { self.old.change < 2 ^ 63 }
+        requires fits { IsRowOf self.old.kind row.now }
+        requires spot { IsSpotIn self.old.kind (length self.old.rows) spot }
+        ensures ok { OnOk result (self.new ≡ edited self.old (adding spot (row.now ∷ []))) }
+        ensures keys { OnOk result (HasKeys self.new) }
+        ensures err { OnErr result (self.new ≡ self.old) }
+    {
+        let before = self.rows.len();
+        let Ok(()) = self.rows.place(spot, row, steps) else {
+            return Err(NoMemory);
+        };
+        let after = self.rows.len();
+        self.change = raised(self.change, before, after);
+        Ok(())
+    }
+
+    /// Puts rows in their spot, where no more than so many new ones come.
+    pub(super) fn place_all<L: Ledger>(
+        &mut self,
+        alloc: Global,
+        spot: Spot,
+        rows: &[Item],
+        room: usize,
+        steps: &mut Steps<L>,
+    ) -> Result<(), Refusal>
+        requires change { self.old.change < 2 ^ 63 }
+        requires fits { AreRowsOf self.old.kind rows.now }
+        requires spot { IsSpotIn self.old.kind (length self.old.rows) spot }
+        requires free { IsFree spot }
+        ensures ok { OnOk result (self.new ≡ edited self.old (adding spot rows.now)) }
+        ensures keys { OnOk result (HasKeys self.new) }
+        ensures few { OnOk result (length self.new.rows ≤ length self.old.rows + room) }
+        ensures err { OnErr result (self.new ≡ self.old) }
+        ensures cause { IfErr result (λ why. ((why ≡ refusals.Limit) × (length self.old.rows + room < length (edited self.old (adding spot rows.now)).rows)) ⊎ (why ≡ refusals.NoMemory)) }
+    {
+        let before = self.rows.len();
+        match self.rows.place_all(alloc, spot, rows, room, steps) {
+            Err(why) => Err(why),
+            Ok(()) => {
+                let after = self.rows.len();
+                self.change = raised(self.change, before, after);
+                Ok(())
+            }
+        }
+    }
+
+    /// Removes the row at a place.
+    pub(super) fn remove<L: Ledger>(&mut self, at: &Place, steps: &mut Steps<L>)
+        requires change { self.old.change < 2 ^ 63 }
+        requires place { IsFrom (places_of self.old) (Some at.now) }
+        ensures after { (numbers : List ℕ) → IsRowAt self.old.rows at.now numbers → self.new ≡ edited self.old (removing numbers) }
+        ensures keys { HasKeys self.new }
+    {
+        let before = self.rows.len();
+        self.rows.remove(at, steps);
+        let after = self.rows.len();
+        self.change = raised(self.change, after, before);
+    }
+
+    /// Removes every row that passes a test.
+    pub(super) fn drop_all<T: RowTest, L: Ledger>(&mut self, test: &T, steps: &mut Steps<L>)
+        requires change { self.old.change < 2 ^ 63 }
+        ensures after { self.new ≡ with_rows self.old (filter (λ row. not (T.passes test.now row)) self.old.rows) (nat_lt (length (filter (λ row. not (T.passes test.now row)) self.old.rows)) (length self.old.rows)) }
+        ensures keys { HasKeys self.new }
+    {
+        let before = self.rows.len();
+        self.rows.drop_all(test, steps);
+        let after = self.rows.len();
+        self.change = raised(self.change, after, before);
+    }
+}
+
+/// A change number after rows came or went: one more where there were fewer on one side than on the other.
+fn raised(change: u64, fewer: usize, more: usize) -> u64
+    requires { change < 2 ^ 63 }
+    ensures { result ≡ change + (if nat_lt fewer more then 1 else 0) }
+{
+    if fewer < more { change + 1 } else { change }
+}

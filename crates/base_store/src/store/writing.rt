@@ -1,0 +1,270 @@
+//! Changing the bases of a store.
+ghost use Rattle.std.specs.Prelude.{◌≡◌, ◌<◌, ◌≤◌, ◌+◌, ◌^◌, ◌⊎◌, ◌&&◌, ◌++◌, ◌∷◌, ℕ, [], List, Some, length, nat_eq, IfErr, OnErr, OnOk};
+ghost use Rattle.base_store.specs.Adding.{is_one_more};
+ghost use Rattle.base_store.specs.BaseRows.{AreRowsOf, IsFree, IsRowOf, IsSpotIn, kind_of, rows_of};
+ghost use Rattle.base_store.specs.Hits.{StandBelow};
+ghost use Rattle.base_store.specs.Nodes.{view_at};
+ghost use Rattle.base_store.specs.Stored.{view_in, with_world};
+ghost use Rattle.view_steps.specs.Answering.{all_hits};
+ghost use Rattle.view_steps.specs.Edits.{adding, edited, removing, world_after};
+ghost use Rattle.view_steps.specs.Kinds.{shape_of_kind};
+ghost use Rattle.view_steps.specs.Lanes.{IsFrom};
+ghost use Rattle.view_steps.specs.Limits.{rows_in, most_rows};
+ghost use Rattle.view_steps.specs.Places as spec;
+ghost use Rattle.view_steps.specs.Places.{HasKeys};
+ghost use Rattle.view_steps.specs.Shapes.{is_keyed};
+ghost use Rattle.view_steps.specs.Views.{base, base_at, base_under, candidates};
+ghost use Rattle.view_steps.specs.declared.refusals.Refusal.TheVariants as refusals;
+
+use super::shown::Shown;
+use super::{MOST_ROWS, Made, Slot, Store};
+use crate::base_rows::BaseRows;
+use crate::{AnyRef, BaseId, RowTest};
+use elem::{NoMemory, Steps};
+use std::alloc::Global;
+use std::sync::ledger::Ledger;
+use view_steps::{Item, Kind, Place, Refusal, Spot, key_of};
+
+impl Store {
+    /// Puts a row in its spot of a base. It takes memory only where a row is added.
+    ///
+    /// # Errors
+    ///
+    /// `Limit` where a row is added and there is no room for one, and `NoMemory`.
+    pub fn place_row<L: Ledger>(
+        &mut self,
+        b: BaseId,
+        spot: Spot,
+        row: &Item,
+        steps: &mut Steps<L>,
+    ) -> Result<(), Refusal>
+        requires base { b < length self.old.world }
+        requires change { (base_at self.old.world b).change < 2 ^ 63 }
+        requires fits { IsRowOf (base_at self.old.world b).kind row.now }
+        requires spot { IsSpotIn (base_at self.old.world b).kind (length (base_at self.old.world b).rows) spot }
+        ensures ok { OnOk result (self.new ≡ with_world self.old (world_after self.old.world b (adding spot (row.now ∷ [])))) }
+        ensures few { rows_in self.new.world ≤ most_rows }
+        ensures err { OnErr result (self.new ≡ self.old) }
+        ensures cause { IfErr result (λ why. ((why ≡ refusals.Limit) × (most_rows < rows_in (world_after self.old.world b (adding spot (row.now ∷ []))))) ⊎ (why ≡ refusals.NoMemory)) }
+    {
+        let at = b.number();
+        let before = rows_at(self.slots.as_slice(), at);
+        if is_full(self.rows, self.slots.as_slice(), at, spot, row, steps) {
+            return Err(Refusal::Limit);
+        }
+        let Ok(()) = place_in(&mut self.slots, at, spot, row, steps) else {
+            return Err(Refusal::NoMemory);
+        };
+        let after = rows_at(self.slots.as_slice(), at);
+        self.rows = self.rows - before + after;
+        Ok(())
+    }
+
+    /// Puts rows in their spot of a base, one after another. All or none are put.
+    ///
+    /// # Errors
+    ///
+    /// `Limit` where more rows would be added than there is room for, and `NoMemory`.
+    pub fn place_rows<L: Ledger>(
+        &mut self,
+        b: BaseId,
+        spot: Spot,
+        rows: &[Item],
+        steps: &mut Steps<L>,
+    ) -> Result<(), Refusal>
+        requires base { b < length self.old.world }
+        requires change { (base_at self.old.world b).change < 2 ^ 63 }
+        requires fits { AreRowsOf (base_at self.old.world b).kind rows.now }
+        requires spot { IsSpotIn (base_at self.old.world b).kind (length (base_at self.old.world b).rows) spot }
+        requires free { IsFree spot }
+        ensures ok { OnOk result (self.new ≡ with_world self.old (world_after self.old.world b (adding spot rows.now))) }
+        ensures few { rows_in self.new.world ≤ most_rows }
+        ensures err { OnErr result (self.new ≡ self.old) }
+        ensures cause { IfErr result (λ why. ((why ≡ refusals.Limit) × (most_rows < rows_in (world_after self.old.world b (adding spot rows.now)))) ⊎ (why ≡ refusals.NoMemory)) }
+    {
+        let at = b.number();
+        let before = rows_at(self.slots.as_slice(), at);
+        let room = MOST_ROWS - self.rows;
+        match place_all_in(&mut self.slots, at, self.alloc, spot, rows, room, steps) {
+            Err(why) => Err(why),
+            Ok(()) => {
+                let after = rows_at(self.slots.as_slice(), at);
+                self.rows = self.rows - before + after;
+                Ok(())
+            }
+        }
+    }
+
+    /// Removes the row at a place of a base. It takes no memory.
+    pub fn remove_row<L: Ledger>(&mut self, b: BaseId, at: &Place, steps: &mut Steps<L>)
+        requires base { b < length self.old.world }
+        requires change { (base_at self.old.world b).change < 2 ^ 63 }
+        requires place { IsFrom (spec.places self.old.world (base b)) (Some at.now) }
+        ensures after { (numbers : List ℕ) → spec.IsRowAt (base_at self.old.world b).rows at.now numbers → self.new ≡ with_world self.old (world_after self.old.world b (removing numbers)) }
+        ensures few { rows_in self.new.world ≤ most_rows }
+    {
+        let number = b.number();
+        let before = rows_at(self.slots.as_slice(), number);
+        remove_in(&mut self.slots, number, at, steps);
+        let after = rows_at(self.slots.as_slice(), number);
+        self.rows = self.rows - before + after;
+    }
+
+    /// Removes the rows that a view shows whose items pass a test. It takes no memory.
+    pub fn drop_shown<T: RowTest, L: Ledger>(&mut self, n: AnyRef, test: &T, steps: &mut Steps<L>)
+        requires node { n < length self.old.nodes }
+        requires change { (base_at self.old.world (base_under (view_in self.old n))).change < 2 ^ 63 }
+        ensures after { self.new ≡ with_world self.old (world_after self.old.world (base_under (view_in self.old n)) (removing (all_hits (T.passes test.now) (candidates self.old.world (view_in self.old n))))) }
+        ensures few { rows_in self.new.world ≤ most_rows }
+    {
+        let at = self.root_of(n).number();
+        let before = rows_at(self.slots.as_slice(), at);
+        drop_in(
+            &mut self.slots,
+            at,
+            self.nodes.as_slice(),
+            self.temporary.as_slice(),
+            n.number(),
+            test,
+            steps,
+        );
+        let after = rows_at(self.slots.as_slice(), at);
+        self.rows = self.rows - before + after;
+    }
+}
+
+/// How many rows a base has.
+fn rows_at(slots: &[Slot], b: usize) -> usize
+    requires { b < length slots.now }
+    ensures { result ≡ length (base_at slots.now b).rows }
+{
+    let slot = &slots[b];
+    slot.rows.len()
+}
+
+/// Whether a row would be one too many.
+fn is_full<L: Ledger>(
+    rows: usize,
+    slots: &[Slot],
+    b: usize,
+    spot: Spot,
+    row: &Item,
+    steps: &mut Steps<L>,
+) -> bool
+    requires { b < length slots.now }
+    ensures { result ≡ (nat_eq rows most_rows && is_one_more (base_at slots.now b).kind spot (base_at slots.now b).rows row.now) }
+{
+    if rows != MOST_ROWS {
+        return false;
+    }
+    let slot = &slots[b];
+    adds(&slot.rows, spot, row, steps)
+}
+
+/// Whether a row that comes to a spot is one more.
+fn adds<L: Ledger>(rows: &BaseRows, spot: Spot, row: &Item, steps: &mut Steps<L>) -> bool
+    ensures { result ≡ is_one_more (kind_of rows.now) spot (rows_of rows.now) row.now }
+{
+    match spot {
+        Spot::Own => {
+            if !goes_by_key(rows.kind()) {
+                return true;
+            }
+            rows.row_of_key(&key_of(row), steps).is_none()
+        }
+        Spot::Before(_) => true,
+        Spot::Instead(_) => false,
+    }
+}
+
+/// Whether the rows of a kind go by key.
+fn goes_by_key(kind: Kind) -> bool
+    ensures { result ≡ is_keyed (shape_of_kind kind) }
+{
+    !matches!(kind, Kind::ArrayList)
+}
+
+/// Puts a row in its spot of a base.
+fn place_in<L: Ledger>(
+    slots: &mut Vec<Slot>,
+    b: usize,
+    spot: Spot,
+    row: &Item,
+    steps: &mut Steps<L>,
+) -> Result<(), NoMemory>
+    requires base { b < length slots.old.items }
+    requires change { (base_at slots.old.items b).change < 2 ^ 63 }
+    requires fits { IsRowOf (base_at slots.old.items b).kind row.now }
+    requires spot { IsSpotIn (base_at slots.old.items b).kind (length (base_at slots.old.items b).rows) spot }
+    ensures ok { OnOk result (slots.new.items ≡ world_after slots.old.items b (adding spot (row.now ∷ []))) }
+    ensures keys { OnOk result (HasKeys (edited (base_at slots.old.items b) (adding spot (row.now ∷ [])))) }
+    ensures err { OnErr result (slots.new.items ≡ slots.old.items) }
+{
+    let slot = &mut slots[b];
+    slot.place(spot, row, steps)
+}
+
+/// Puts rows in their spot of a base, where no more than so many new ones come.
+fn place_all_in<L: Ledger>(
+    slots: &mut Vec<Slot>,
+    b: usize,
+    alloc: Global,
+    spot: Spot,
+    rows: &[Item],
+    room: usize,
+    steps: &mut Steps<L>,
+) -> Result<(), Refusal>
+    requires base { b < length slots.old.items }
+    requires change { (base_at slots.old.items b).change < 2 ^ 63 }
+    requires fits { AreRowsOf (base_at slots.old.items b).kind rows.now }
+    requires spot { IsSpotIn (base_at slots.old.items b).kind (length (base_at slots.old.items b).rows) spot }
+    requires free { IsFree spot }
+    ensures ok { OnOk result (slots.new.items ≡ world_after slots.old.items b (adding spot rows.now)) }
+    ensures keys { OnOk result (HasKeys (edited (base_at slots.old.items b) (adding spot rows.now))) }
+    ensures few { OnOk result (length (edited (base_at slots.old.items b) (adding spot rows.now)).rows ≤ length (base_at slots.old.items b).rows + room) }
+    ensures err { OnErr result (slots.new.items ≡ slots.old.items) }
+    ensures cause { IfErr result (λ why. ((why ≡ refusals.Limit) × (length (base_at slots.old.items b).rows + room < length (edited (base_at slots.old.items b) (adding spot rows.now)).rows)) ⊎ (why ≡ refusals.NoMemory)) }
+{
+    let slot = &mut slots[b];
+    slot.place_all(alloc, spot, rows, room, steps)
+}
+
+/// Removes the row at a place of a base.
+fn remove_in<L: Ledger>(slots: &mut Vec<Slot>, b: usize, at: &Place, steps: &mut Steps<L>)
+    requires base { b < length slots.old.items }
+    requires change { (base_at slots.old.items b).change < 2 ^ 63 }
+    requires place { IsFrom (spec.places slots.old.items (base b)) (Some at.now) }
+    ensures after { (numbers : List ℕ) → spec.IsRowAt (base_at slots.old.items b).rows at.now numbers → slots.new.items ≡ world_after slots.old.items b (removing numbers) }
+    ensures keys { (numbers : List ℕ) → spec.IsRowAt (base_at slots.old.items b).rows at.now numbers → HasKeys (edited (base_at slots.old.items b) (removing numbers)) }
+{
+    let slot = &mut slots[b];
+    slot.remove(at, steps);
+}
+
+/// Removes the rows of a base that a view over it shows whose items pass a test.
+fn drop_in<T: RowTest, L: Ledger>(
+    slots: &mut Vec<Slot>,
+    b: usize,
+    lasting: &[Made],
+    temporary: &[Made],
+    n: usize,
+    test: &T,
+    steps: &mut Steps<L>,
+)
+    requires base { b < length slots.old.items }
+    requires change { (base_at slots.old.items b).change < 2 ^ 63 }
+    requires within { n < length (lasting.now ++ temporary.now) }
+    requires below { StandBelow (lasting.now ++ temporary.now) }
+    requires under { b ≡ base_under (view_at (lasting.now ++ temporary.now) n) }
+    ensures after { slots.new.items ≡ world_after slots.old.items b (removing (all_hits (T.passes test.now) (candidates slots.old.items (view_at (lasting.now ++ temporary.now) n)))) }
+    ensures keys { HasKeys (edited (base_at slots.old.items b) (removing (all_hits (T.passes test.now) (candidates slots.old.items (view_at (lasting.now ++ temporary.now) n))))) }
+{
+    let shown = Shown {
+        lasting,
+        temporary,
+        n,
+        test,
+    };
+    let slot = &mut slots[b];
+    slot.drop_all(&shown, steps);
+}
