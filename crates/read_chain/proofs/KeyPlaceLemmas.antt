@@ -1,0 +1,42 @@
+-- Where the first hit of a key stands.
+use Rattle.std.proofs.Common.{◌≡◌, ℕ, Bool, true, cond, List, [], ◌∷◌, map, ap, sym, ◌∙◌, subst, arith}
+use Rattle.std.specs.Prelude.{filter, Some, None}
+use Rattle.std.proofs.lemmas.Option.{same_Some, slice_get_within}
+use Rattle.elem.specs.declared.elements.Elem.{Elem}
+use Rattle.read_chain.specs.Reads.{StandsAt}
+use Rattle.view_steps.specs.declared.items.Item.{Item}
+use Rattle.view_steps.specs.declared.lanes.Lane.TheVariants.{OfKey}
+use Rattle.view_steps.specs.declared.places.Found.{Found}
+use Rattle.view_steps.specs.declared.places.Place.TheVariants.{Key}
+use Rattle.view_steps.specs.Answering.{first_hit, is_hit, rows_of_first}
+use Rattle.view_steps.specs.Answers.{has_key}
+use Rattle.view_steps.specs.Lanes.{IsStraight}
+use Rattle.view_steps.specs.Places.{found_in, places, HasKeys, IsRowAt}
+use Rattle.view_steps.specs.Views.{World, View, Candidate, base_at, base_under, candidates}
+use Rattle.view_steps.proofs.StandLemmas.{count_law, stand_law}
+use Rattle.view_steps.proofs.MemberLemmas.{in_kept}
+use Rattle.view_steps.proofs.PlaceLemmas.{place_in_base}
+use Rattle.view_steps.proofs.ListViews.{IsThere, candidate_there}
+use Rattle.view_steps.proofs.HitLemmas.{found_hit, of_key, found_of_key, hit_passes, first_of_key, alone}
+use Rattle.view_steps.proofs.KeyPlaces.{HasPlace, place_of_one}
+
+-- ---- the candidate of a key
+
+pub key_hit : (world : World) (v : View) (passes : Item → Bool) (k : Elem) (d : Found) → HasKeys (base_at world (base_under v)) → IsStraight world v (OfKey k)
+    → ((item : Item) → passes item ≡ true → has_key k item ≡ true) → filter (λ (e : Found). has_key k e.item) (map found_in (candidates world v)) ≡ d ∷ [] → found_hit passes d ≡ true
+    → StandsAt world v (Key k) (first_hit passes (candidates world v))
+key_hit world v passes k d keys s imply one hit =
+    let cs : List Candidate = candidates world v in
+    let here : HasPlace world v k d = place_of_one world v k d keys s one in
+    let c : IsThere cs here.index = candidate_there cs here.index (omega (arith, slice_get_within (places world v) here.index (Key k) here.place, count_law world v keys)) in
+    let stands = stand_law world v (Key k) here.index c.candidate keys here.place c.there in
+    let shows : found_in c.candidate ≡ d = same_Some (found_in c.candidate) d (sym stands.0 ∙ here.shows) in
+    let passed : is_hit passes c.candidate ≡ true = ap (found_hit passes) shows ∙ hit in
+    let single : of_key k cs ≡ c.candidate ∷ [] =
+    alone d c.candidate (of_key k cs) (found_of_key k cs ∙ one) (in_kept (λ (e : Candidate). has_key k e.item) cs c.candidate here.index c.there (hit_passes passes k imply c.candidate passed)) in
+    let first : first_hit passes cs ≡ c.candidate.rows =
+    first_of_key passes k cs imply ∙ ap (first_hit passes) single ∙ ap (λ b. rows_of_first (cond b (Some c.candidate) None)) passed in
+    record {
+      place = place_in_base world v (Key k) (here.index, here.place);
+      row = subst (λ (ns : List ℕ). IsRowAt (base_at world (base_under v)).rows (Key k) ns) (sym first) stands.1;
+    }

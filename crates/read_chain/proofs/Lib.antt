@@ -1,0 +1,5 @@
+pub mod WalkLemmas
+pub mod LookUpLemmas
+pub mod FindLemmas
+pub mod ListViewLemmas
+pub mod KeyPlaceLemmas

@@ -1,0 +1,90 @@
+-- A walk: its places, and what it still has to come to.
+use Rattle.std.proofs.Common.{◌≡◌, ℕ, zero, suc, ◌+◌, Bool, true, false, not, cond, List, ◌∷◌, length, map, drop, refl, ap, sym, ◌∙◌, subst, arith}
+use Rattle.std.specs.Prelude.{filter, slice_get, Option, Some, None}
+use Rattle.std.proofs.lemmas.Simd.{map-map}
+use Rattle.read_chain.specs.Reads.{leaves_out, shows_all}
+use Rattle.read_chain.specs.Walks.{IsAt, is_seen_there, item_there, seen_items}
+use Rattle.view_steps.specs.declared.items.Item.{Item}
+use Rattle.view_steps.specs.declared.places.Found.{Found}
+use Rattle.view_steps.specs.declared.places.Place.{Place}
+use Rattle.view_steps.specs.declared.step_table.Family.{Family}
+use Rattle.view_steps.specs.declared.step_table.Family.TheVariants.{Same, Changed, Turned, Hidden, Cut}
+use Rattle.view_steps.specs.declared.steps.Step.{Step}
+use Rattle.view_steps.specs.Lanes.{Follows, IsFrom, turned_if}
+use Rattle.view_steps.specs.Places.{found_in}
+use Rattle.view_steps.specs.RowForm.{RowForm, form_of, form_over, shows}
+use Rattle.view_steps.specs.Steps.{family_of}
+use Rattle.view_steps.specs.Views.{World, View, base, over, Candidate, base_at, base_under, is_seen, item_in, shown}
+use Rattle.view_steps.proofs.ListLemmas.{both, filter-all, filter-map, filter-reverse, map-reverse}
+use Rattle.view_steps.proofs.CountLemmas.{length_shown}
+
+-- ---- places passed
+
+-- the place after those that were passed
+pub place_next : (ps : List Place) (i : ℕ) (from to : Option Place) → IsAt ps i from → Follows ps from to → slice_get ps i ≡ to
+place_next ps zero None to at next = next
+place_next ps zero (Some p) to at next = absurd at
+place_next ps (suc i) None to at next = absurd at
+place_next ps (suc i) (Some p) to at next = ap (slice_get ps) (let e : suc i ≡ i + 1 = omega arith in e) ∙ next i at
+
+pub place_last : (ps : List Place) (i : ℕ) (from : Option Place) → IsAt ps i from → IsFrom ps from
+place_last ps zero None at = tt
+place_last ps zero (Some p) at = absurd at
+place_last ps (suc i) None at = absurd at
+place_last ps (suc i) (Some p) at = (i, at)
+
+pub passes_one : (ps : List Place) (i : ℕ) (p : Place) → slice_get ps i ≡ Some p → IsAt ps (i + 1) (Some p)
+passes_one ps i p is = subst (λ (n : ℕ). IsAt ps n (Some p)) (let e : suc i ≡ i + 1 = omega arith in e) is
+
+-- the last place, where one more was passed
+pub last_passed : (ps : List Place) (i : ℕ) (last : Option Place) → IsAt ps (i + 1) last → slice_get ps i ≡ last
+last_passed ps i last at = by last (subst (λ (n : ℕ). IsAt ps n last) (let e : i + 1 ≡ suc i = omega arith in e) at)
+  where
+    by : (o : Option Place) → IsAt ps (suc i) o → slice_get ps i ≡ o
+    by None at = absurd at
+    by (Some p) at = at
+
+-- ---- what is seen
+
+pub shown_found : (cs : List Candidate) → map item_in (filter is_seen cs) ≡ seen_items (map found_in cs)
+shown_found cs = sym (ap (map item_there) (filter-map is_seen_there found_in cs) ∙ map-map item_there found_in (filter is_seen cs))
+
+seen_turned : (t : Bool) (ds : List Found) → seen_items (turned_if t ds) ≡ turned_if t (seen_items ds)
+seen_turned true ds = ap (map item_there) (filter-reverse is_seen_there ds) ∙ map-reverse item_there (filter is_seen_there ds)
+seen_turned false ds = refl
+
+-- at its start a walk has all to come to
+pub all_to_come : (t : Bool) (cs : List Candidate) → seen_items (drop 0 (turned_if t (map found_in cs))) ≡ turned_if t (map item_in (filter is_seen cs))
+all_to_come t cs = seen_turned t (map found_in cs) ∙ ap (turned_if t) (sym (shown_found cs))
+
+pub seen_first : (d : Found) (ds : List Found) → d.seen ≡ true → seen_items (d ∷ ds) ≡ d.item ∷ seen_items ds
+seen_first d ds h = ap (λ b. map item_there (cond b (d ∷ filter is_seen_there ds) (filter is_seen_there ds))) h
+
+pub hidden_first : (d : Found) (ds : List Found) → d.seen ≡ false → seen_items (d ∷ ds) ≡ seen_items ds
+hidden_first d ds h = ap (λ b. map item_there (cond b (d ∷ filter is_seen_there ds) (filter is_seen_there ds))) h
+
+-- ---- how many are shown
+
+family_shows : (family : Family) (it : Step) (f : RowForm) → leaves_out family ≡ false → ((row : Item) → shows f row ≡ true) → (row : Item) → shows (form_over family it f) row ≡ true
+family_shows Same it f h all row = all row
+family_shows Changed it f h all row = all row
+family_shows Turned it f h all row = all row
+family_shows Hidden it f h all row = absurd (cc)
+family_shows Cut it f h all row = absurd (cc)
+
+every_row : (v : View) → shows_all v ≡ true → (row : Item) → shows (form_of v) row ≡ true
+every_row (base b) h row = refl
+every_row (over it v) h row =
+    let parts = both (not (leaves_out (family_of it))) (shows_all v) h in
+    family_shows (family_of it) it (form_of v) (kept (leaves_out (family_of it)) parts.0) (every_row v parts.1) row
+  where
+    kept : (b : Bool) → not b ≡ true → b ≡ false
+    kept true e = sym e
+    kept false e = refl
+
+-- as many items as rows, where no step leaves one out
+pub all_shown : (world : World) (v : View) → shows_all v ≡ true → length (shown world v) ≡ length (base_at world (base_under v)).rows
+all_shown world v h =
+    let rows : List Item = (base_at world (base_under v)).rows in
+    length_shown world v
+    ∙ ap length (ap (λ (q : Item → Bool). filter q rows) (λ i row. every_row v h row i) ∙ filter-all rows)

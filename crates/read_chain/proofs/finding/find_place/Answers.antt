@@ -1,0 +1,41 @@
+use Rattle.std.proofs.Common.{ℕ, sym, ◌∙◌, ap, subst, Bool}
+use Rattle.std.specs.Prelude.{drop, find}
+use Rattle.base_store.specs.Stored.{view_in}
+use Rattle.view_steps.specs.declared.items.Item.{Item}
+use Rattle.view_steps.specs.Answering.{is_hit}
+use Rattle.view_steps.specs.Places.{HasKeys}
+use Rattle.view_steps.specs.Views.{base_at, base_under, candidates}
+use Rattle.read_chain.proofs.FindLemmas.{found_from, walk_hit}
+use Rattle.read_chain.proofs.finding.find_place.Goals as goal
+use Rattle.view_steps.proofs.HitLemmas.{hit_later, no_hit}
+
+pub returns-then-is_hit-clause-some : goal.returns-then-is_hit-clause-some
+returns-then-is_hit-clause-some g c =
+    let s = c.args.store.now in
+    let v = view_in s c.args.n in
+    let keys : HasKeys (base_at s.world (base_under v)) = subst (λ (b : ℕ). HasKeys (base_at s.world b)) c.base_of-base.ensures.base c.base_of-base.ensures.keys in
+    rw (c.last.ensures) (walk_hit s c.args.n (g.T.RowTest.passes c.args.test.now) c.loop-found.walk c.pass.new.self c.in-Some.found _ keys c.loop-found.invariant.node c.loop-found.invariant.front
+    c.in-Some.ensures.node c.in-Some.ensures.back c.in-Some.ensures.passed c.in-Some.ensures.walk c.in-Some.ensures.found (sym c.is_hit.ensures ∙ c.if-is_hit.true) c.loop-found.invariant.rest).1
+
+pub loop-found-preserved : goal.loop-found-preserved
+loop-found-preserved g c =
+    let s = c.args.store.now in
+    let old = c.loop-found.walk in
+    let passes : Item → Bool = g.T.RowTest.passes c.args.test.now in
+    let cs = candidates s.world (view_in s c.args.n) in
+    let found = found_from s c.args.n old _ c.loop-found.invariant.node c.loop-found.invariant.front c.in-Some.ensures.found in
+    record {
+      walk = c.in-Some.ensures.walk;
+      node = c.in-Some.ensures.node ∙ c.loop-found.invariant.node;
+      front = c.in-Some.ensures.back ∙ c.loop-found.invariant.front;
+      rest = ap (λ (i : ℕ). find (is_hit passes) (drop i cs)) c.in-Some.ensures.passed
+          ∙ hit_later passes cs old.passed c.in-Some.found _ found (sym c.is_hit.ensures ∙ c.if-is_hit.false)
+          ∙ c.loop-found.invariant.rest;
+    }
+
+pub returns-clause-none : goal.returns-clause-none
+returns-clause-none g c =
+    let s = c.args.store.now in
+    let old = c.loop-found.walk in
+    no_hit (g.T.RowTest.passes c.args.test.now) (candidates s.world (view_in s c.args.n)) old.passed
+    (found_from s c.args.n old _ c.loop-found.invariant.node c.loop-found.invariant.front c.in_default.ensures.found.0) c.loop-found.invariant.rest

@@ -1,0 +1,33 @@
+use Rattle.std.proofs.Common.{◌∙◌, ap, cond, map, Bool, Some, None}
+use Rattle.std.specs.Prelude.{filter}
+use Rattle.std.specs.Option.{option_to_list}
+use Rattle.base_store.specs.Stored.{view_in}
+use Rattle.view_steps.specs.Answers.{has_key}
+use Rattle.view_steps.specs.Places.{found_in}
+use Rattle.view_steps.specs.Views.{candidates}
+use Rattle.read_chain.proofs.LookUpLemmas.{shown_of_one}
+use Rattle.read_chain.proofs.WalkLemmas.{shown_found}
+use Rattle.read_chain.proofs.look_ups.shown_at_key.Goals as goal
+
+pub returns-then-found-clause-item : goal.returns-then-found-clause-item
+returns-then-found-clause-item g c =
+    let s = c.args.store.now in
+    let cs = candidates s.world (view_in s c.args.n) in
+    ap (filter (has_key c.args.k.now)) (shown_found cs)
+    ∙ shown_of_one (has_key c.args.k.now) (map found_in cs) (Some c.in-Some.found) c.in-Some.ensures.found
+    ∙ ap (λ (b : Bool). option_to_list (cond b (Some c.in-Some.found.item) None)) c.if-found.true
+
+pub returns-else-found-clause-item : goal.returns-else-found-clause-item
+returns-else-found-clause-item g c =
+    let s = c.args.store.now in
+    let cs = candidates s.world (view_in s c.args.n) in
+    ap (filter (has_key c.args.k.now)) (shown_found cs)
+    ∙ shown_of_one (has_key c.args.k.now) (map found_in cs) (Some c.in-Some.found) c.in-Some.ensures.found
+    ∙ ap (λ (b : Bool). option_to_list (cond b (Some c.in-Some.found.item) None)) c.if-found.false
+
+pub returns-in-None-clause-item : goal.returns-in-None-clause-item
+returns-in-None-clause-item g c =
+    let s = c.args.store.now in
+    let cs = candidates s.world (view_in s c.args.n) in
+    ap (filter (has_key c.args.k.now)) (shown_found cs)
+    ∙ shown_of_one (has_key c.args.k.now) (map found_in cs) None c.in-None.ensures.found

@@ -1,0 +1,49 @@
+use Rattle.std.proofs.Common.{◌≡◌, ℕ, ◌<◌, sym, ◌∙◌, ap, subst, arith, length, Some}
+use Rattle.std.specs.Prelude.{option_map}
+use Rattle.std.proofs.lemmas.Option.{slice_get_past}
+use Rattle.base_store.specs.Stored.{view_in}
+use Rattle.read_chain.specs.Reads.{shown_in}
+use Rattle.read_chain.specs.Walks.{item_there}
+use Rattle.view_steps.specs.declared.places.Place.TheVariants.{Index}
+use Rattle.view_steps.specs.Indexes as spec
+use Rattle.view_steps.specs.Places.{show, HasKeys}
+use Rattle.view_steps.specs.Views.{World, View, base_at, base_under}
+use Rattle.read_chain.proofs.ListViewLemmas.{item_at_place}
+use Rattle.read_chain.proofs.reads.item_at.Goals as goal
+use Rattle.view_steps.proofs.CountLemmas.{few_shown}
+use Rattle.view_steps.proofs.ListViews.{list_indexed}
+
+-- the index of an item, by the size of the base under a view
+index_is : (world : World) (v : View) (b size i index : ℕ) → b ≡ base_under v → size ≡ length (base_at world b).rows → index ≡ spec.item_index v size i → index ≡ spec.item_index v (length (base_at world (base_under v)).rows) i
+index_is world v b size i index at count is = is ∙ ap (λ (m : ℕ). spec.item_index v m i) (count ∙ ap (λ (n : ℕ). length (base_at world n).rows) at)
+
+pub returns-then-i-size : goal.returns-then-i-size
+returns-then-i-size g c =
+    let s = c.args.store.now in
+    sym (slice_get_past (shown_in s c.args.n) c.args.i (omega (arith, few_shown s.world (view_in s c.args.n), ap (λ (b : ℕ). length (base_at s.world b).rows) c.base_of.ensures.base, c.len-size.ensures.len)))
+
+pub found_at-requires-clause-place : goal.found_at-requires-clause-place
+found_at-requires-clause-place g c =
+    let s = c.args.store.now in
+    let v = view_in s c.args.n in
+    let lt : c.args.i < length (base_at s.world (base_under v)).rows = omega (arith, ap (λ (b : ℕ). length (base_at s.world b).rows) c.base_of.ensures.base, c.len-size.ensures.len) in
+    let index = index_is s.world v c.base_of.result c.len-size.result c.args.i c.item_index.result c.base_of.ensures.base c.len-size.ensures.len c.item_index.ensures.index in
+    (c.args.i, (list_indexed s.world v c.base_of.ensures.made c.requires.list).index c.args.i lt ∙ ap (λ (k : ℕ). Some (Index k)) (sym index))
+
+pub returns-in-Some : goal.returns-in-Some
+returns-in-Some g c =
+    let s = c.args.store.now in
+    let v = view_in s c.args.n in
+    let keys : HasKeys (base_at s.world (base_under v)) = subst (λ (b : ℕ). HasKeys (base_at s.world b)) c.base_of.ensures.base c.base_of.ensures.keys in
+    let lt : c.args.i < length (base_at s.world (base_under v)).rows = omega (arith, ap (λ (b : ℕ). length (base_at s.world b).rows) c.base_of.ensures.base, c.len-size.ensures.len) in
+    let index = index_is s.world v c.base_of.result c.len-size.result c.args.i c.item_index.result c.base_of.ensures.base c.len-size.ensures.len c.item_index.ensures.index in
+    ap (option_map item_there) (c.in-Some.ensures.found ∙ ap (λ (k : ℕ). show s.world v (Index k)) index) ∙ sym (item_at_place s.world v c.args.i c.base_of.ensures.made keys c.requires.list lt)
+
+pub returns-in-None : goal.returns-in-None
+returns-in-None g c =
+    let s = c.args.store.now in
+    let v = view_in s c.args.n in
+    let keys : HasKeys (base_at s.world (base_under v)) = subst (λ (b : ℕ). HasKeys (base_at s.world b)) c.base_of.ensures.base c.base_of.ensures.keys in
+    let lt : c.args.i < length (base_at s.world (base_under v)).rows = omega (arith, ap (λ (b : ℕ). length (base_at s.world b).rows) c.base_of.ensures.base, c.len-size.ensures.len) in
+    let index = index_is s.world v c.base_of.result c.len-size.result c.args.i c.item_index.result c.base_of.ensures.base c.len-size.ensures.len c.item_index.ensures.index in
+    ap (option_map item_there) (c.in-None.ensures.found ∙ ap (λ (k : ℕ). show s.world v (Index k)) index) ∙ sym (item_at_place s.world v c.args.i c.base_of.ensures.made keys c.requires.list lt)

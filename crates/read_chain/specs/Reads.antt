@@ -1,0 +1,53 @@
+-- What a read answers.
+use Rattle.std.specs.Prelude.{ℕ, Bool, true, false, not, ◌&&◌, List, Option, None, Some, Result, Ok, Err}
+use Rattle.base_store.specs.Stored.{Stored, view_in}
+use Rattle.view_steps.specs.declared.answers.Answer.{Answer}
+use Rattle.view_steps.specs.declared.answers.Answer.TheVariants.{Element}
+use Rattle.view_steps.specs.declared.calls.Call.{Call}
+use Rattle.view_steps.specs.declared.items.Item.{Item}
+use Rattle.view_steps.specs.declared.places.Place.{Place}
+use Rattle.view_steps.specs.declared.refusals.Refusal.{Refusal}
+use Rattle.view_steps.specs.declared.refusals.Refusal.TheVariants.{NoSuchElement}
+use Rattle.view_steps.specs.declared.step_table.Family.{Family}
+use Rattle.view_steps.specs.declared.step_table.Family.TheVariants.{Hidden, Cut}
+use Rattle.view_steps.specs.Answering.{test_refusal, unless_refused}
+use Rattle.view_steps.specs.Answers.{answer_of}
+use Rattle.view_steps.specs.Items.{key_of}
+use Rattle.view_steps.specs.Lanes.{IsFrom}
+use Rattle.view_steps.specs.Places.{places, IsRowAt}
+use Rattle.view_steps.specs.Steps.{family_of}
+use Rattle.view_steps.specs.Views.{World, View, base, over, base_at, base_under, shape_at, shown}
+
+-- what a node shows
+abbrev pub shown_in : Stored → ℕ → List Item
+shown_in s n = shown s.world (view_in s n)
+
+-- what a call answers that only reads, or why its argument is refused
+abbrev pub told : World → View → Call → Result Answer Refusal
+told world v call = unless_refused (test_refusal call (shown world v)) (Ok (answer_of (shape_at world v) call (shown world v)))
+
+-- the element of an item, where there is one
+abbrev pub element_told : Option Item → Result Answer Refusal
+element_told None = Err NoSuchElement
+element_told (Some item) = Ok (Element (key_of item))
+
+-- whether the views by a family of steps show fewer items than the views below them
+abbrev pub leaves_out : Family → Bool
+leaves_out Hidden = true
+leaves_out Cut = true
+leaves_out family = false
+
+-- whether no step of a view leaves an item out
+abbrev pub shows_all : View → Bool
+shows_all (base b) = true
+shows_all (over step v) = not (leaves_out (family_of step)) && shows_all v
+
+-- why a result is none
+abbrev pub refusal_in : {X : Type 0} → Result X Refusal → Option Refusal
+refusal_in (Ok x) = None
+refusal_in (Err why) = Some why
+
+-- a place of the base under a view, where the one row of these numbers stands
+pub record StandsAt (world : World) (v : View) (p : Place) (numbers : List ℕ) : Type 0 where
+  pub place : IsFrom (places world (base (base_under v))) (Some p)
+  pub row : IsRowAt (base_at world (base_under v)).rows p numbers

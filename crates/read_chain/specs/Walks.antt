@@ -1,0 +1,46 @@
+-- Walks over what a view shows.
+use Rattle.std.specs.Prelude.{◌≡◌, ℕ, zero, suc, Bool, ◌<◌, List, [], ◌∷◌, length, map, filter, slice_get, drop, Option, None, Some}
+use Rattle.base_store.specs.Stored.{Stored, view_in}
+use Rattle.read_chain.specs.declared.walks.Walk.{Walk}
+use Rattle.view_steps.specs.declared.items.Item.{Item}
+use Rattle.view_steps.specs.declared.lanes.Lane.TheVariants.{All}
+use Rattle.view_steps.specs.declared.places.Found.{Found}
+use Rattle.view_steps.specs.declared.places.Place.{Place}
+use Rattle.view_steps.specs.Lanes.{line, turned_if}
+use Rattle.view_steps.specs.Places.{found_in}
+use Rattle.view_steps.specs.Views.{candidates}
+
+-- the place of the last of so many that were passed
+abbrev pub IsAt : List Place → ℕ → Option Place → Type 0
+IsAt ps zero None = Unit {0}
+IsAt ps zero (Some p) = ⊥
+IsAt ps (suc i) None = ⊥
+IsAt ps (suc i) (Some p) = slice_get ps i ≡ Some p
+
+-- a walk over a node of the store
+pub record IsWalk (s : Stored) (w : Walk) : Type 0 where
+  pub node : w.node < length s.nodes
+  pub at : IsAt (line s.world (view_in s w.node) All w.back) w.passed w.last
+
+abbrev pub is_seen_there : Found → Bool
+is_seen_there d = d.seen
+
+abbrev pub item_there : Found → Item
+item_there d = d.item
+
+-- the items of what is seen
+abbrev pub seen_items : List Found → List Item
+seen_items found = map item_there (filter is_seen_there found)
+
+-- what a view shows, or hides, from the front or from the back
+abbrev pub found_along : Stored → ℕ → Bool → List Found
+found_along s n back = turned_if back (map found_in (candidates s.world (view_in s n)))
+
+-- the items that a walk still has to come to
+abbrev pub to_come : Stored → Walk → List Item
+to_come s w = seen_items (drop w.passed (found_along s w.node w.back))
+
+-- the first of a list, and those behind it; or none, where the list is empty
+abbrev pub TakesFirst : {X : Type 0} → List X → Option X → List X → Type 0
+TakesFirst xs None rest = (xs ≡ []) × (rest ≡ [])
+TakesFirst xs (Some x) rest = xs ≡ x ∷ rest

@@ -1,0 +1,80 @@
+//! The place of an item by its key: one call of the base.
+ghost use Rattle.std.specs.Prelude.{◌≡◌, ◌<◌, ◌≤◌, ◌+◌, length, true, IfNone, IfSome, []};
+ghost use Rattle.base_store.specs.Stored.{view_in};
+ghost use Rattle.read_chain.specs.Reads.{StandsAt};
+ghost use Rattle.view_steps.specs.Answering.{first_hit};
+ghost use Rattle.view_steps.specs.Answers.{has_key};
+ghost use Rattle.view_steps.specs.Items as items;
+ghost use Rattle.view_steps.specs.Shapes.{is_keyed};
+ghost use Rattle.view_steps.specs.Views.{candidates, shape_at};
+ghost use Rattle.view_steps.specs.declared.items.Item as spec;
+
+use crate::finding::{ItemTest, find_place, is_hit};
+use crate::look_ups::{goes_by_key, look_up};
+use base_store::{AnyRef, RowTest, Store};
+use elem::{Elem, Steps};
+use std::sync::ledger::Ledger;
+use view_steps::{Item, Place, key_of};
+
+/// The place of the first item that is the same. In a set or a set of entries it asks the base once at most.
+pub fn place_of<L: Ledger>(
+    store: &Store,
+    n: AnyRef,
+    item: &Item,
+    steps: &mut Steps<L>,
+) -> Option<Place>
+    requires { n < length store.now.nodes }
+    ensures none { IfNone result (first_hit (items.same_item item.now) (candidates store.now.world (view_in store.now n)) ≡ []) }
+    ensures some { IfSome result (λ p. StandsAt store.now.world (view_in store.now n) p (first_hit (items.same_item item.now) (candidates store.now.world (view_in store.now n)))) }
+    ensures step { is_keyed (shape_at store.now.world (view_in store.now n)) ≡ true → steps.new ≤ steps.old + 1 }
+{
+    if goes_by_key(store.shape(n)) {
+        place_at_key(store, n, &key_of(item), &ItemTest::Same(*item), steps)
+    } else {
+        find_place(store, n, &ItemTest::Same(*item), steps)
+    }
+}
+
+/// The place of the item shown at a key. It asks the base once at most.
+pub fn place_of_key<L: Ledger>(
+    store: &Store,
+    n: AnyRef,
+    k: &Elem,
+    steps: &mut Steps<L>,
+) -> Option<Place>
+    requires node { n < length store.now.nodes }
+    requires keyed { is_keyed (shape_at store.now.world (view_in store.now n)) ≡ true }
+    ensures none { IfNone result (first_hit (has_key k.now) (candidates store.now.world (view_in store.now n)) ≡ []) }
+    ensures some { IfSome result (λ p. StandsAt store.now.world (view_in store.now n) p (first_hit (has_key k.now) (candidates store.now.world (view_in store.now n)))) }
+    ensures step { steps.new ≤ steps.old + 1 }
+{
+    place_at_key(store, n, k, &ItemTest::OfKey(*k), steps)
+}
+
+/// The place of the item that is shown at a key and passes a test, which items of no other key pass.
+fn place_at_key<T: RowTest, L: Ledger>(
+    store: &Store,
+    n: AnyRef,
+    k: &Elem,
+    test: &T,
+    steps: &mut Steps<L>,
+) -> Option<Place>
+    requires node { n < length store.now.nodes }
+    requires keyed { is_keyed (shape_at store.now.world (view_in store.now n)) ≡ true }
+    requires narrow { (item : spec.Item) → T.passes test.now item ≡ true → has_key k.now item ≡ true }
+    ensures none { IfNone result (first_hit (T.passes test.now) (candidates store.now.world (view_in store.now n)) ≡ []) }
+    ensures some { IfSome result (λ p. StandsAt store.now.world (view_in store.now n) p (first_hit (T.passes test.now) (candidates store.now.world (view_in store.now n)))) }
+    ensures step { steps.new ≤ steps.old + 1 }
+{
+    let _base = store.base_of(n);
+    match look_up(store, n, k, steps) {
+        Some(found) => {
+            if is_hit(test, &found) {
+                Some(Place::Key(*k))
+            } else {
+                None
+            }
+        }
+        None => None,
+    }
+}

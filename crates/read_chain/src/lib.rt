@@ -1,0 +1,27 @@
+//! Reading through nested views: what a view shows is read from the rows of its base at the moment of the call.
+//!
+//! No list is built and no memory is taken: a walk goes from place to place of the base, and a look-up by key asks the
+//! base once.
+#![tactic(auto)]
+
+mod finding;
+mod indexes;
+mod key_places;
+mod look_ups;
+mod making;
+mod places;
+mod reading;
+mod reads;
+mod walks;
+
+pub use finding::{ItemTest, find, find_place};
+pub use indexes::{gap_index, item_index, place_of_item};
+pub use key_places::{place_of, place_of_key};
+pub use look_ups::look_up;
+pub use making::make_view;
+pub use reading::read;
+pub use reads::{
+    contains, contains_all, first, has_key, has_value, index_of, is_empty, item_at, last, map_get,
+    size,
+};
+pub use walks::Walk;

@@ -1,0 +1,119 @@
+//! The calls that only read.
+ghost use Rattle.std.specs.Prelude.{◌≡◌, ◌<◌, length, true, nat_lt, Ok, ◌≢◌, Err};
+ghost use Rattle.base_store.specs.Stored.{view_in};
+ghost use Rattle.read_chain.specs.Reads.{element_told, shown_in, told};
+ghost use Rattle.view_steps.specs.Answering.{index_refusal, unless_refused};
+ghost use Rattle.view_steps.specs.Answers as answers;
+ghost use Rattle.view_steps.specs.Calls as spec;
+ghost use Rattle.view_steps.specs.Indexes.{is_list};
+ghost use Rattle.view_steps.specs.Views.{shape_at};
+ghost use Rattle.view_steps.specs.declared.calls.Call.TheVariants as calls;
+ghost use Rattle.view_steps.specs.declared.refusals.Refusal.TheVariants.{NoMemory};
+ghost use Rattle.view_steps.specs.declared.steps.Needs.TheVariants as needs;
+
+use crate::reads::{
+    contains, first, has_key, has_value, index_of, is_empty, item_at, last, map_get, size,
+};
+use base_store::{AnyRef, Store};
+use elem::{Elem, Steps};
+use std::sync::ledger::Ledger;
+use view_steps::{Answer, Ask, Call, Item, OnElement, OnPair, Refusal, key_of};
+
+/// Answers a call that only reads.
+pub fn read<L: Ledger>(
+    store: &Store,
+    n: AnyRef,
+    call: &Call,
+    steps: &mut Steps<L>,
+) -> Result<Answer, Refusal>
+    requires node { n < length store.now.nodes }
+    requires fits { spec.fits (shape_at store.now.world (view_in store.now n)) call.now ≡ true }
+    requires reads { spec.needs_of call.now ≡ needs.Nothing }
+    ensures answer { result ≡ told store.now.world (view_in store.now n) call.now }
+    ensures memory { result ≢ Err NoMemory }
+{
+    match call {
+        Call::Ask(word) => read_ask(store, n, *word, steps),
+        Call::Element(word, x) => Ok(read_element(store, n, *word, x, steps)),
+        Call::Index(_, i) => read_item(store, n, *i, steps),
+        Call::Pair(OnPair::ContainsEntry | OnPair::RemoveEntry, k, v) => Ok(Answer::Truth(contains(
+            store,
+            n,
+            &Item::Entry(*k, *v),
+            steps,
+        ))),
+        Call::Pair(OnPair::Put, _, _) | Call::Indexed(_, _, _) => unreachable!(),
+    }
+}
+
+/// Answers a call that takes nothing.
+fn read_ask<L: Ledger>(
+    store: &Store,
+    n: AnyRef,
+    word: Ask,
+    steps: &mut Steps<L>,
+) -> Result<Answer, Refusal>
+    requires { n < length store.now.nodes }
+    ensures { result ≡ told store.now.world (view_in store.now n) (calls.Ask word) }
+{
+    match word {
+        Ask::Size => Ok(Answer::Number(size(store, n, steps))),
+        Ask::IsEmpty => Ok(Answer::Truth(is_empty(store, n, steps))),
+        Ask::First | Ask::FirstKey => tell_element(first(store, n, steps)),
+        Ask::Last | Ask::LastKey => tell_element(last(store, n, steps)),
+        Ask::Clear => Ok(Answer::Done),
+    }
+}
+
+/// An item's element, where there is one.
+fn tell_element(item: Option<Item>) -> Result<Answer, Refusal>
+    ensures { result ≡ element_told item }
+{
+    match item {
+        Some(item) => Ok(Answer::Element(key_of(&item))),
+        None => Err(Refusal::NoSuchElement),
+    }
+}
+
+/// Answers a call on an element that only reads.
+fn read_element<L: Ledger>(
+    store: &Store,
+    n: AnyRef,
+    word: OnElement,
+    x: &Elem,
+    steps: &mut Steps<L>,
+) -> Answer
+    requires node { n < length store.now.nodes }
+    requires fits { spec.fits_element (shape_at store.now.world (view_in store.now n)) word ≡ true }
+    requires reads { spec.needs_of (calls.Element word x.now) ≡ needs.Nothing }
+    ensures { result ≡ answers.element_answer (shape_at store.now.world (view_in store.now n)) word x.now (shown_in store.now n) }
+{
+    match word {
+        OnElement::Contains => Answer::Truth(contains(store, n, &Item::One(*x), steps)),
+        OnElement::IndexOf => Answer::Index(index_of(store, n, &Item::One(*x), steps)),
+        OnElement::ValueOf => Answer::Optional(map_get(store, n, x, steps)),
+        OnElement::ContainsKey => Answer::Truth(has_key(store, n, x, steps)),
+        OnElement::ContainsValue => Answer::Truth(has_value(store, n, x, steps)),
+        OnElement::Add | OnElement::Remove | OnElement::RemoveKey => unreachable!(),
+    }
+}
+
+/// Answers with the element at an index of a list.
+fn read_item<L: Ledger>(
+    store: &Store,
+    n: AnyRef,
+    i: Option<usize>,
+    steps: &mut Steps<L>,
+) -> Result<Answer, Refusal>
+    requires node { n < length store.now.nodes }
+    requires list { is_list (shape_at store.now.world (view_in store.now n)) ≡ true }
+    ensures { result ≡ unless_refused (index_refusal (λ k. nat_lt k (length (shown_in store.now n))) i) (Ok (answers.element_of (answers.item_shown (shown_in store.now n) i))) }
+{
+    match i {
+        Some(i) => match item_at(store, n, i, steps) {
+            Some(item) => Ok(Answer::Element(key_of(&item))),
+            None => Err(Refusal::IndexOutOfBounds),
+        },
+        None => Err(Refusal::IndexOutOfBounds),
+    }
+}
