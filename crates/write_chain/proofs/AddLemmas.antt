@@ -1,0 +1,30 @@
+-- What came of rows that were placed.
+use Rattle.std.proofs.Common.{◌≡◌, ◌⊎◌, ℕ, ◌<◌, ◌≤◌, Bool, true, List, sym, ap, ◌∙◌, subst}
+use Rattle.std.specs.Prelude.{Ok, Err, is_some}
+use Rattle.std.specs.List.{list_all}
+use Rattle.base_store.specs.Stored.{Stored, with_world}
+use Rattle.view_steps.specs.declared.answers.Answer.{Answer}
+use Rattle.view_steps.specs.declared.edits.Spot.{Spot}
+use Rattle.view_steps.specs.declared.items.Item.{Item}
+use Rattle.view_steps.specs.declared.refusals.Refusal.{Refusal}
+use Rattle.view_steps.specs.declared.refusals.Refusal.TheVariants.{Limit, NoMemory}
+use Rattle.view_steps.specs.Edits.{adding, world_after}
+use Rattle.view_steps.specs.Limits.{rows_in, most_rows}
+use Rattle.view_steps.specs.Views.{World, View, base_under, lift}
+use Rattle.write_chain.specs.Calls.{Came, added}
+use Rattle.write_chain.proofs.CameLemmas.{came_ok, came_err}
+use Rattle.write_chain.proofs.LiftLemmas.{all_pass}
+
+pub add_placed : (s now : Stored) (v : View) (items : List Item) (spot : Spot) (answer : Answer) (test : Bool) (b : ℕ) → test ≡ list_all (λ item. is_some (lift v item)) items → test ≡ true → b ≡ base_under v
+    → now ≡ with_world s (world_after s.world b (adding spot items)) → rows_in now.world ≤ most_rows → Came (Ok answer) s now (added s.world v items spot answer)
+add_placed s now v items spot answer test b is h base e few =
+    let w : World = world_after s.world (base_under v) (adding spot items) in
+    subst (Came (Ok answer) s now) (sym (all_pass s.world v items spot answer (sym is ∙ h)))
+    (came_ok s now answer w (e ∙ ap (λ b. with_world s (world_after s.world b (adding spot items))) base) few)
+
+pub add_stopped : (s now : Stored) (v : View) (items : List Item) (spot : Spot) (answer : Answer) (test : Bool) (b : ℕ) (why : Refusal) → test ≡ list_all (λ item. is_some (lift v item)) items → test ≡ true → b ≡ base_under v
+    → now ≡ s → ((why ≡ Limit) × (most_rows < rows_in (world_after s.world b (adding spot items)))) ⊎ (why ≡ NoMemory) → Came (Err why) s now (added s.world v items spot answer)
+add_stopped s now v items spot answer test b why is h base e cause =
+    subst (Came (Err why) s now) (sym (all_pass s.world v items spot answer (sym is ∙ h)))
+    (came_err s now why answer (world_after s.world (base_under v) (adding spot items)) e
+    (subst (λ (b : ℕ). ((why ≡ Limit) × (most_rows < rows_in (world_after s.world b (adding spot items)))) ⊎ (why ≡ NoMemory)) base cause))

@@ -1,0 +1,11 @@
+pub mod CameLemmas
+pub mod ChangeLemmas
+pub mod ShapeLemmas
+pub mod LiftLemmas
+pub mod AddLemmas
+pub mod IndexCalls
+pub mod RemoveLemmas
+pub mod ItemLemmas
+pub mod MemberLemmas
+pub mod OtherLemmas
+pub mod HitLemmas

@@ -1,0 +1,36 @@
+use Rattle.std.proofs.Common.{ap, arith, subst, true, false}
+use Rattle.std.specs.Prelude.{Ok}
+use Rattle.base_store.specs.Stored.{view_in}
+use Rattle.view_steps.specs.declared.answers.Answer.{Answer}
+use Rattle.view_steps.specs.declared.answers.Answer.TheVariants.{Truth}
+use Rattle.view_steps.specs.Answering.{first_hit}
+use Rattle.view_steps.specs.Items.{same_item}
+use Rattle.view_steps.specs.Views.{base_under, candidates}
+use Rattle.write_chain.specs.Calls.{Came, removed}
+use Rattle.write_chain.proofs.HitLemmas.{one_shown}
+use Rattle.write_chain.proofs.RemoveLemmas.{gone_came, none_hit, row_gone}
+use Rattle.write_chain.proofs.removing.remove_item.Goals as goal
+use Rattle.view_steps.proofs.HitLemmas.{none_shown}
+use Rattle.view_steps.proofs.ChangeLemmas.{room}
+
+pub remove_row-requires-clause-change : goal.remove_row-requires-clause-change
+remove_row-requires-clause-change g c = room _ _ c.requires.change
+
+pub returns-in-Some : goal.returns-in-Some
+returns-in-Some g c =
+    let s = c.args.store.now in
+    let v = view_in s c.args.n in
+    let passes = same_item c.args.item.now in
+    let gone = first_hit passes (candidates s.world v) in
+    let now = c.remove_row.new.self in
+    subst (λ (a : Answer). Came (Ok (Truth true)) s now (removed s.world v gone a)) (ap Truth (one_shown s.world v passes c.in-Some.place c.in-Some.ensures.some))
+    (gone_came s now v gone (Truth true) (row_gone s now v c.in-Some.place c.base_of-b.result gone c.base_of-b.ensures.base c.in-Some.ensures.some c.remove_row.ensures.after) c.remove_row.ensures.few)
+
+pub returns-in-None : goal.returns-in-None
+returns-in-None g c =
+    let s = c.args.store.now in
+    let v = view_in s c.args.n in
+    let passes = same_item c.args.item.now in
+    let gone = first_hit passes (candidates s.world v) in
+    subst (λ (a : Answer). Came (Ok (Truth false)) s s (removed s.world v gone a)) (ap Truth (none_shown s.world v passes c.in-None.ensures.none))
+    (gone_came s s v gone (Truth false) (none_hit s (base_under v) gone c.in-None.ensures.none) (omega (arith, c.rows_left-left.ensures)))

@@ -1,0 +1,47 @@
+-- What a call leaves.
+use Rattle.std.specs.Prelude.{◌≡◌, Bool, true, false, ℕ, List, Result, Ok, Err, Some}
+use Rattle.base_store.specs.Stored.{Stored, with_world}
+use Rattle.view_steps.specs.declared.answers.Answer.{Answer}
+use Rattle.view_steps.specs.declared.calls.Call.{Call}
+use Rattle.view_steps.specs.declared.calls.Call.TheVariants as call
+use Rattle.view_steps.specs.declared.calls.OnElement.TheVariants.{Add}
+use Rattle.view_steps.specs.declared.calls.OnOther.{OnOther}
+use Rattle.view_steps.specs.declared.calls.OnOther.TheVariants.{ContainsAll}
+use Rattle.view_steps.specs.declared.calls.OnPair.TheVariants.{Put}
+use Rattle.view_steps.specs.declared.edits.Spot.{Spot}
+use Rattle.view_steps.specs.declared.items.Item.{Item}
+use Rattle.view_steps.specs.declared.refusals.Refusal.{Refusal}
+use Rattle.view_steps.specs.declared.refusals.Refusal.TheVariants.{NoMemory}
+use Rattle.view_steps.specs.Answering.{Answered, carried_out, lift_refusal, rows_for, unless_refused, within_rows}
+use Rattle.view_steps.specs.Edits.{adding, removing, world_after}
+use Rattle.view_steps.specs.Views.{World, View, base_under}
+
+-- a refused call changes nothing; want of memory is answered in place of an answer or of a refusal
+abbrev pub IsRefused : Refusal → Answered → Type 0
+IsRefused NoMemory outcome = Unit {0}
+IsRefused why outcome = outcome ≡ Err why
+
+-- whether a call may want memory: one that adds an item or puts one in the place of another
+abbrev pub wants_memory : Call → Bool
+wants_memory (call.Element Add x) = true
+wants_memory (call.Indexed word i x) = true
+wants_memory (call.Pair Put k w) = true
+wants_memory other = false
+
+abbrev pub wants_memory_with : OnOther → Bool
+wants_memory_with ContainsAll = false
+wants_memory_with word = true
+
+-- the answer and the bases that were defined, or the refusal, or want of memory
+abbrev pub Came : Result Answer Refusal → Stored → Stored → Answered → Type 0
+Came (Ok answer) before now (Ok done) = (answer ≡ done.0) × (now ≡ with_world before done.1)
+Came (Ok answer) before now (Err why) = ⊥
+Came (Err why) before now outcome = (now ≡ before) × IsRefused why outcome
+
+-- the answer where items are added to a view that allows it, unless one of them does not pass
+abbrev pub added : World → View → List Item → Spot → Answer → Answered
+added world v items spot answer = unless_refused (lift_refusal v items) (carried_out world v answer (Some (adding spot (rows_for v items))))
+
+-- the answer where rows of the base under a view go
+abbrev pub removed : World → View → List ℕ → Answer → Answered
+removed world v gone answer = within_rows answer (world_after world (base_under v) (removing gone))

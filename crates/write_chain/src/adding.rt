@@ -1,0 +1,65 @@
+//! Adding items to a view that allows it.
+ghost use Rattle.std.specs.Prelude.{◌≡◌, ◌<◌, ◌^◌, ◌∷◌, [], length, true};
+ghost use Rattle.base_store.specs.BaseRows.{AreRowsOf, IsFree, IsRowOf, IsSpotIn};
+ghost use Rattle.base_store.specs.Stored.{view_in};
+ghost use Rattle.view_steps.specs.Limits.{ChangesUpTo};
+ghost use Rattle.view_steps.specs.Views.{base_at, base_under};
+ghost use Rattle.write_chain.specs.Calls.{Came, added};
+
+use crate::lifting::{all_lift, lifts};
+use base_store::{AnyRef, Store};
+use elem::Steps;
+use std::sync::ledger::Ledger;
+use view_steps::{Answer, Item, Refusal, Spot};
+
+/// Puts one item in a spot of the base under a view, unless it does not pass, and gives the answer.
+pub(crate) fn add_one<L: Ledger>(
+    store: &mut Store,
+    n: AnyRef,
+    item: &Item,
+    spot: Spot,
+    answer: Answer,
+    steps: &mut Steps<L>,
+) -> Result<Answer, Refusal>
+    requires node { n < length store.old.nodes }
+    requires fits { IsRowOf (base_at store.old.world (base_under (view_in store.old n))).kind item.now }
+    requires spot { IsSpotIn (base_at store.old.world (base_under (view_in store.old n))).kind (length (base_at store.old.world (base_under (view_in store.old n))).rows) spot }
+    requires change { ChangesUpTo (2 ^ 62) store.old.world }
+    ensures { Came result store.old store.new (added store.old.world (view_in store.old n) (item.now ∷ []) spot answer) }
+{
+    if !lifts(store, n, item) {
+        return Err(Refusal::IllegalArgument);
+    }
+    let b = store.base_of(n);
+    match store.place_row(b, spot, item, steps) {
+        Ok(()) => Ok(answer),
+        Err(why) => Err(why),
+    }
+}
+
+/// Puts items in a spot of the base under a view, unless one of them does not pass, and gives the answer. All or none
+/// are put.
+pub(crate) fn add_many<L: Ledger>(
+    store: &mut Store,
+    n: AnyRef,
+    items: &[Item],
+    spot: Spot,
+    answer: Answer,
+    steps: &mut Steps<L>,
+) -> Result<Answer, Refusal>
+    requires node { n < length store.old.nodes }
+    requires fits { AreRowsOf (base_at store.old.world (base_under (view_in store.old n))).kind items.now }
+    requires spot { IsSpotIn (base_at store.old.world (base_under (view_in store.old n))).kind (length (base_at store.old.world (base_under (view_in store.old n))).rows) spot }
+    requires free { IsFree spot }
+    requires change { ChangesUpTo (2 ^ 62) store.old.world }
+    ensures { Came result store.old store.new (added store.old.world (view_in store.old n) items.now spot answer) }
+{
+    if !all_lift(store, n, items) {
+        return Err(Refusal::IllegalArgument);
+    }
+    let b = store.base_of(n);
+    match store.place_rows(b, spot, items, steps) {
+        Ok(()) => Ok(answer),
+        Err(why) => Err(why),
+    }
+}

@@ -1,0 +1,230 @@
+//! The calls on views.
+ghost use Rattle.std.specs.Prelude.{◌≡◌, ◌<◌, ◌≤◌, ◌+◌, ◌^◌, ℕ, false, length, true, ◌≢◌, Err};
+ghost use Rattle.base_store.specs.Stored.{view_in};
+ghost use Rattle.view_steps.specs.Answering.{answered, answered_with};
+ghost use Rattle.view_steps.specs.Calls as spec;
+ghost use Rattle.view_steps.specs.Indexes.{is_list};
+ghost use Rattle.view_steps.specs.Limits.{ChangesUpTo, rows_in, most_rows};
+ghost use Rattle.view_steps.specs.Steps as table;
+ghost use Rattle.view_steps.specs.Views.{flags_at, shape_at};
+ghost use Rattle.view_steps.specs.declared.calls.Call.TheVariants as calls;
+ghost use Rattle.view_steps.specs.declared.refusals.Refusal.TheVariants.{NoMemory};
+ghost use Rattle.write_chain.specs.Calls.{Came, wants_memory, wants_memory_with};
+
+use crate::clearing::clear;
+use crate::others::{add_all, put_all, remove_others};
+use crate::putting::{add, add_at, put, set_at};
+use crate::removing::{remove_at, remove_item, remove_key};
+use base_store::{AnyRef, Store};
+use elem::{Elem, Steps};
+use read_chain::{contains_all, read};
+use std::sync::ledger::Ledger;
+use view_steps::{
+    Answer, Ask, Call, Item, OnElement, OnIndex, OnIndexed, OnOther, OnPair, Refusal, lacks,
+    needs_of, needs_with,
+};
+
+/// Answers a call on a view, and changes the base under it as the call says.
+///
+/// # Errors
+///
+/// The refusal of the call, in this order: `UnsupportedOperation` where the view does not allow it, the refusal of its
+/// argument, `IllegalArgument` where an item that is added does not pass, and `Limit` where there would be too many
+/// rows; or `NoMemory`. Nothing has changed then.
+pub fn call<L: Ledger>(
+    store: &mut Store,
+    n: AnyRef,
+    call: &Call,
+    steps: &mut Steps<L>,
+) -> Result<Answer, Refusal>
+    requires node { n < length store.old.nodes }
+    requires fits { spec.fits (shape_at store.old.world (view_in store.old n)) call.now ≡ true }
+    requires change { ChangesUpTo (2 ^ 62) store.old.world }
+    ensures came { Came result store.old store.new (answered store.old.world (view_in store.old n) call.now) }
+    ensures memory { wants_memory call.now ≡ false → result ≢ Err NoMemory }
+    ensures changes { (most : ℕ) → ChangesUpTo most store.old.world → ChangesUpTo (most + 1) store.new.world }
+{
+    let flags = store.flags_of(n);
+    if lacks(flags, needs_of(call)) {
+        return Err(Refusal::UnsupportedOperation);
+    }
+    carry_out(store, n, call, steps)
+}
+
+/// Answers a call that the view allows.
+fn carry_out<L: Ledger>(
+    store: &mut Store,
+    n: AnyRef,
+    call: &Call,
+    steps: &mut Steps<L>,
+) -> Result<Answer, Refusal>
+    requires node { n < length store.old.nodes }
+    requires fits { spec.fits (shape_at store.old.world (view_in store.old n)) call.now ≡ true }
+    requires allowed { table.lacks (flags_at store.old.world (view_in store.old n)) (spec.needs_of call.now) ≡ false }
+    requires change { ChangesUpTo (2 ^ 62) store.old.world }
+    ensures came { Came result store.old store.new (answered store.old.world (view_in store.old n) call.now) }
+    ensures memory { wants_memory call.now ≡ false → result ≢ Err NoMemory }
+{
+    match call {
+        Call::Ask(word) => on_ask(store, n, *word, steps),
+        Call::Element(word, x) => on_element(store, n, *word, x, steps),
+        Call::Index(word, i) => on_index(store, n, *word, *i, steps),
+        Call::Indexed(word, i, x) => on_indexed(store, n, *word, *i, x, steps),
+        Call::Pair(word, k, w) => on_pair(store, n, *word, k, w, steps),
+    }
+}
+
+fn on_ask<L: Ledger>(
+    store: &mut Store,
+    n: AnyRef,
+    word: Ask,
+    steps: &mut Steps<L>,
+) -> Result<Answer, Refusal>
+    requires node { n < length store.old.nodes }
+    requires fits { spec.fits (shape_at store.old.world (view_in store.old n)) (calls.Ask word) ≡ true }
+    requires allowed { table.lacks (flags_at store.old.world (view_in store.old n)) (spec.needs_of (calls.Ask word)) ≡ false }
+    requires change { ChangesUpTo (2 ^ 62) store.old.world }
+    ensures came { Came result store.old store.new (answered store.old.world (view_in store.old n) (calls.Ask word)) }
+    ensures memory { wants_memory (calls.Ask word) ≡ false → result ≢ Err NoMemory }
+{
+    match word {
+        Ask::Clear => Ok(clear(store, n, steps)),
+        _ => read(store, n, &Call::Ask(word), steps),
+    }
+}
+
+fn on_element<L: Ledger>(
+    store: &mut Store,
+    n: AnyRef,
+    word: OnElement,
+    x: &Elem,
+    steps: &mut Steps<L>,
+) -> Result<Answer, Refusal>
+    requires node { n < length store.old.nodes }
+    requires fits { spec.fits (shape_at store.old.world (view_in store.old n)) (calls.Element word x.now) ≡ true }
+    requires allowed { table.lacks (flags_at store.old.world (view_in store.old n)) (spec.needs_of (calls.Element word x.now)) ≡ false }
+    requires change { ChangesUpTo (2 ^ 62) store.old.world }
+    ensures came { Came result store.old store.new (answered store.old.world (view_in store.old n) (calls.Element word x.now)) }
+    ensures memory { wants_memory (calls.Element word x.now) ≡ false → result ≢ Err NoMemory }
+{
+    match word {
+        OnElement::Add => add(store, n, x, steps),
+        OnElement::Remove => Ok(remove_item(store, n, &Item::One(*x), steps)),
+        OnElement::RemoveKey => Ok(remove_key(store, n, x, steps)),
+        _ => read(store, n, &Call::Element(word, *x), steps),
+    }
+}
+
+fn on_index<L: Ledger>(
+    store: &mut Store,
+    n: AnyRef,
+    word: OnIndex,
+    i: Option<usize>,
+    steps: &mut Steps<L>,
+) -> Result<Answer, Refusal>
+    requires node { n < length store.old.nodes }
+    requires fits { is_list (shape_at store.old.world (view_in store.old n)) ≡ true }
+    requires allowed { table.lacks (flags_at store.old.world (view_in store.old n)) (spec.needs_of (calls.Index word i)) ≡ false }
+    requires change { ChangesUpTo (2 ^ 62) store.old.world }
+    ensures came { Came result store.old store.new (answered store.old.world (view_in store.old n) (calls.Index word i)) }
+    ensures memory { wants_memory (calls.Index word i) ≡ false → result ≢ Err NoMemory }
+{
+    match word {
+        OnIndex::ItemAt => read(store, n, &Call::Index(word, i), steps),
+        OnIndex::RemoveAt => remove_at(store, n, i, steps),
+    }
+}
+
+fn on_indexed<L: Ledger>(
+    store: &mut Store,
+    n: AnyRef,
+    word: OnIndexed,
+    i: Option<usize>,
+    x: &Elem,
+    steps: &mut Steps<L>,
+) -> Result<Answer, Refusal>
+    requires node { n < length store.old.nodes }
+    requires fits { is_list (shape_at store.old.world (view_in store.old n)) ≡ true }
+    requires allowed { table.lacks (flags_at store.old.world (view_in store.old n)) (spec.needs_of (calls.Indexed word i x.now)) ≡ false }
+    requires change { ChangesUpTo (2 ^ 62) store.old.world }
+    ensures { Came result store.old store.new (answered store.old.world (view_in store.old n) (calls.Indexed word i x.now)) }
+{
+    match word {
+        OnIndexed::AddAt => add_at(store, n, i, x, steps),
+        OnIndexed::SetAt => set_at(store, n, i, x, steps),
+    }
+}
+
+fn on_pair<L: Ledger>(
+    store: &mut Store,
+    n: AnyRef,
+    word: OnPair,
+    k: &Elem,
+    w: &Elem,
+    steps: &mut Steps<L>,
+) -> Result<Answer, Refusal>
+    requires node { n < length store.old.nodes }
+    requires fits { spec.fits (shape_at store.old.world (view_in store.old n)) (calls.Pair word k.now w.now) ≡ true }
+    requires allowed { table.lacks (flags_at store.old.world (view_in store.old n)) (spec.needs_of (calls.Pair word k.now w.now)) ≡ false }
+    requires change { ChangesUpTo (2 ^ 62) store.old.world }
+    ensures came { Came result store.old store.new (answered store.old.world (view_in store.old n) (calls.Pair word k.now w.now)) }
+    ensures memory { wants_memory (calls.Pair word k.now w.now) ≡ false → result ≢ Err NoMemory }
+{
+    match word {
+        OnPair::Put => put(store, n, k, w, steps),
+        OnPair::ContainsEntry => read(store, n, &Call::Pair(word, *k, *w), steps),
+        OnPair::RemoveEntry => Ok(remove_item(store, n, &Item::Entry(*k, *w), steps)),
+    }
+}
+
+/// Answers a call with another view, which is read whole before anything changes.
+///
+/// # Errors
+///
+/// As `call`.
+pub fn call_with<L: Ledger>(
+    store: &mut Store,
+    n: AnyRef,
+    word: OnOther,
+    other: AnyRef,
+    steps: &mut Steps<L>,
+) -> Result<Answer, Refusal>
+    requires node { n < length store.old.nodes }
+    requires other { other < length store.old.nodes }
+    requires fits { spec.fits_with (shape_at store.old.world (view_in store.old n)) word (shape_at store.old.world (view_in store.old other)) ≡ true }
+    requires change { ChangesUpTo (2 ^ 62) store.old.world }
+    ensures came { Came result store.old store.new (answered_with store.old.world (view_in store.old n) word (view_in store.old other)) }
+    ensures memory { wants_memory_with word ≡ false → result ≢ Err NoMemory }
+    ensures changes { (most : ℕ) → ChangesUpTo most store.old.world → ChangesUpTo (most + 1) store.new.world }
+{
+    let flags = store.flags_of(n);
+    if lacks(flags, needs_with(word)) {
+        return Err(Refusal::UnsupportedOperation);
+    }
+    carry_out_with(store, n, word, other, steps)
+}
+
+/// Answers a call with another view that the view allows.
+fn carry_out_with<L: Ledger>(
+    store: &mut Store,
+    n: AnyRef,
+    word: OnOther,
+    other: AnyRef,
+    steps: &mut Steps<L>,
+) -> Result<Answer, Refusal>
+    requires node { n < length store.old.nodes }
+    requires other { other < length store.old.nodes }
+    requires fits { spec.fits_with (shape_at store.old.world (view_in store.old n)) word (shape_at store.old.world (view_in store.old other)) ≡ true }
+    requires allowed { table.lacks (flags_at store.old.world (view_in store.old n)) (spec.needs_with word) ≡ false }
+    requires change { ChangesUpTo (2 ^ 62) store.old.world }
+    ensures came { Came result store.old store.new (answered_with store.old.world (view_in store.old n) word (view_in store.old other)) }
+    ensures memory { wants_memory_with word ≡ false → result ≢ Err NoMemory }
+{
+    match word {
+        OnOther::ContainsAll => Ok(Answer::Truth(contains_all(store, n, other, steps))),
+        OnOther::AddAll => add_all(store, n, other, steps),
+        OnOther::RemoveAll => remove_others(store, n, other, false, steps),
+        OnOther::RetainAll => remove_others(store, n, other, true, steps),
+        OnOther::PutAll => put_all(store, n, other, steps),
+    }
+}

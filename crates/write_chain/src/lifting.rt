@@ -1,0 +1,27 @@
+//! Whether items that are added pass each step down to the base.
+ghost use Rattle.std.specs.Prelude.{◌≡◌, ◌<◌, length, is_some};
+ghost use Rattle.std.specs.List.{list_all};
+ghost use Rattle.base_store.specs.Stored.{view_in};
+ghost use Rattle.view_steps.specs.Views.{lift as lifted_item};
+
+use base_store::{AnyRef, Node, Store};
+use view_steps::{Item, passes};
+
+/// Whether an item that is added passes each step down to the base. It is the row then.
+pub(crate) fn lifts(store: &Store, n: AnyRef, item: &Item) -> bool
+    requires { n < length store.now.nodes }
+    ensures { result ≡ is_some (lifted_item (view_in store.now n) item.now) }
+{
+    match store.node(n) {
+        Node::Base(_) => true,
+        Node::Step { step, parent } => passes(step, item) && lifts(store, parent, item),
+    }
+}
+
+/// Whether each of some items does.
+pub(crate) fn all_lift(store: &Store, n: AnyRef, items: &[Item]) -> bool
+    requires { n < length store.now.nodes }
+    ensures { result ≡ list_all (λ item. is_some (lifted_item (view_in store.now n) item)) items.now }
+{
+    items.iter().all(|item| lifts(store, n, item))
+}

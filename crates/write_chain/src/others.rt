@@ -1,0 +1,139 @@
+//! The calls with another view, on a view that allows them.
+ghost use Rattle.std.specs.Prelude.{◌≡◌, ◌<◌, ◌^◌, Ok, cond, length, not, true};
+ghost use Rattle.std.specs.List.{list_any};
+ghost use Rattle.base_store.specs.BaseRows.{AreRowsOf};
+ghost use Rattle.base_store.specs.Stored.{view_in};
+ghost use Rattle.view_steps.specs.Answering.{all_hits, end_of_view};
+ghost use Rattle.view_steps.specs.Answers as answering;
+ghost use Rattle.view_steps.specs.Calls as spec;
+ghost use Rattle.view_steps.specs.Limits.{ChangesUpTo};
+ghost use Rattle.view_steps.specs.Views.{base_at, base_under, candidates, flags_at, shape_at, shown};
+ghost use Rattle.view_steps.specs.declared.answers.Answer.TheVariants as answers;
+ghost use Rattle.view_steps.specs.declared.edits.Spot.TheVariants as spots;
+ghost use Rattle.write_chain.specs.Calls.{Came, added, removed};
+ghost use Rattle.write_chain.specs.Members.{among_passes};
+
+use crate::adding::add_many;
+use crate::members::{Among, collected, members_of};
+use crate::putting::is_set;
+use crate::spots::end_spot;
+use base_store::{AnyRef, Store};
+use elem::Steps;
+use read_chain::{contains_all, find};
+use std::sync::ledger::Ledger;
+use view_steps::{Answer, Item, Refusal, Spot};
+
+/// Removes what a view shows and a test passes, and tells whether there was such an item.
+fn remove_among<L: Ledger>(
+    store: &mut Store,
+    n: AnyRef,
+    test: &Among,
+    steps: &mut Steps<L>,
+) -> Answer
+    requires node { n < length store.old.nodes }
+    requires change { ChangesUpTo (2 ^ 62) store.old.world }
+    ensures { Came (Ok result) store.old store.new (removed store.old.world (view_in store.old n) (all_hits (among_passes test.now) (candidates store.old.world (view_in store.old n))) (answers.Truth (list_any (among_passes test.now) (shown store.old.world (view_in store.old n))))) }
+{
+    let found = find(store, n, test, steps).is_some();
+    store.drop_shown(n, test, steps);
+    Answer::Truth(found)
+}
+
+/// Removes what another view shows, or else what it does not show, and tells whether there was such an item.
+pub(crate) fn remove_others<L: Ledger>(
+    store: &mut Store,
+    n: AnyRef,
+    other: AnyRef,
+    out: bool,
+    steps: &mut Steps<L>,
+) -> Result<Answer, Refusal>
+    requires node { n < length store.old.nodes }
+    requires other { other < length store.old.nodes }
+    requires elements { spec.is_elements (shape_at store.old.world (view_in store.old other)) ≡ true }
+    requires change { ChangesUpTo (2 ^ 62) store.old.world }
+    ensures { Came result store.old store.new (removed store.old.world (view_in store.old n)
+        (all_hits (λ item. cond out (not (answering.is_shown (shown store.old.world (view_in store.old other)) item)) (answering.is_shown (shown store.old.world (view_in store.old other)) item)) (candidates store.old.world (view_in store.old n)))
+        (answers.Truth (list_any (λ item. cond out (not (answering.is_shown (shown store.old.world (view_in store.old other)) item)) (answering.is_shown (shown store.old.world (view_in store.old other)) item)) (shown store.old.world (view_in store.old n))))) }
+{
+    let b = store.base_of(other);
+    store.rows_fit(b);
+    match members_of(store, other, steps) {
+        Ok(members) => Ok(remove_among(store, n, &Among { members, out }, steps)),
+        Err(why) => Err(why),
+    }
+}
+
+/// Whether items that are added to a view change what it shows: a set, where one of them is not shown yet.
+fn adds_something<L: Ledger>(
+    store: &Store,
+    n: AnyRef,
+    other: AnyRef,
+    items: &[Item],
+    steps: &mut Steps<L>,
+) -> bool
+    requires node { n < length store.now.nodes }
+    requires other { other < length store.now.nodes }
+    requires items { items.now ≡ shown store.now.world (view_in store.now other) }
+    ensures { result ≡ answering.adds_something (spec.is_set (shape_at store.now.world (view_in store.now n))) (shown store.now.world (view_in store.now n)) (shown store.now.world (view_in store.now other)) }
+{
+    if is_set(store, n) {
+        !contains_all(store, n, other, steps)
+    } else {
+        !items.is_empty()
+    }
+}
+
+/// Adds the elements that another view shows at the end, unless one of them does not pass.
+pub(crate) fn add_all<L: Ledger>(
+    store: &mut Store,
+    n: AnyRef,
+    other: AnyRef,
+    steps: &mut Steps<L>,
+) -> Result<Answer, Refusal>
+    requires node { n < length store.old.nodes }
+    requires other { other < length store.old.nodes }
+    requires elements { spec.is_elements (shape_at store.old.world (view_in store.old n)) ≡ true }
+    requires others { spec.is_elements (shape_at store.old.world (view_in store.old other)) ≡ true }
+    requires adds { (flags_at store.old.world (view_in store.old n)).add ≡ true }
+    requires change { ChangesUpTo (2 ^ 62) store.old.world }
+    ensures { Came result store.old store.new (added store.old.world (view_in store.old n) (shown store.old.world (view_in store.old other)) (end_of_view store.old.world (view_in store.old n))
+        (answers.Truth (answering.adds_something (spec.is_set (shape_at store.old.world (view_in store.old n))) (shown store.old.world (view_in store.old n)) (shown store.old.world (view_in store.old other))))) }
+{
+    let b = store.base_of(other);
+    store.rows_fit(b);
+    match collected(store, other, steps) {
+        Ok(items) => {
+            let rows: &[Item] = &items;
+            let new = adds_something(store, n, other, rows, steps);
+            let spot = end_spot(store, n);
+            add_many(store, n, rows, spot, Answer::Truth(new), steps)
+        }
+        Err(why) => Err(why),
+    }
+}
+
+/// Puts the entries that another view shows, unless one of them does not pass.
+pub(crate) fn put_all<L: Ledger>(
+    store: &mut Store,
+    n: AnyRef,
+    other: AnyRef,
+    steps: &mut Steps<L>,
+) -> Result<Answer, Refusal>
+    requires node { n < length store.old.nodes }
+    requires other { other < length store.old.nodes }
+    requires map { spec.is_map (shape_at store.old.world (view_in store.old n)) ≡ true }
+    requires others { spec.is_map (shape_at store.old.world (view_in store.old other)) ≡ true }
+    requires adds { (flags_at store.old.world (view_in store.old n)).add ≡ true }
+    requires change { ChangesUpTo (2 ^ 62) store.old.world }
+    ensures { Came result store.old store.new (added store.old.world (view_in store.old n) (shown store.old.world (view_in store.old other)) spots.Own answers.Done) }
+{
+    let b = store.base_of(other);
+    store.rows_fit(b);
+    match collected(store, other, steps) {
+        Ok(items) => {
+            let rows: &[Item] = &items;
+            add_many(store, n, rows, Spot::Own, Answer::Done, steps)
+        }
+        Err(why) => Err(why),
+    }
+}
