@@ -13,4 +13,5 @@ mod stages;
 
 pub use kinds::{KindName, LongKind};
 pub use lines::{Line, Part, Slice};
+pub use news::is_name;
 pub use reader::read_line;

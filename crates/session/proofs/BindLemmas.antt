@@ -1,35 +1,35 @@
 -- A line that gives a name to a view: what is kept, and the outcome.
-use Rattle.std.proofs.Common.{◌≡◌, ◌≢◌, ◌⊎◌, ℕ, ◌+◌, ◌<◌, ◌≤◌, max, List, [], ◌∷◌, ◌++◌, length, take, drop, Option, None, Some, Result, Ok, Err, inl, inr, refl, sym, ◌∙◌, ap, subst, zero, suc, arith}
+use Rattle.std.proofs.Common.{◌≡◌, ◌≢◌, ℕ, ◌+◌, ◌<◌, ◌≤◌, max, List, [], ◌∷◌, ◌++◌, length, take, drop, Option, Some, Result, Ok, Err, inl, inr, sym, ◌∙◌, ap, subst, zero, suc, arith}
 use Rattle.std.specs.Prelude.{codes}
 use Rattle.std.specs.Map.{lookup}
 use Rattle.std.specs.Option.{option_map}
 use Rattle.std.proofs.lemmas.List.{take-append-drop}
-use Rattle.indexmap.specs.IndexMap.{insert_entry}
-use Rattle.map_views.specs.declared.refusals.Refusal.{Refusal}
-use Rattle.map_views.specs.declared.refusals.Refusal.TheVariants as refusal
-use Rattle.map_views.specs.Refusals.{name_of}
-use Rattle.map_views.specs.Views.{View, shape_at}
+use Rattle.view_steps.specs.declared.refusals.Refusal.{Refusal}
+use Rattle.view_steps.specs.declared.refusals.Refusal.TheVariants as refusal
+use Rattle.view_steps.specs.Refusals.{name_of}
+use Rattle.view_steps.specs.Limits.{ChangesUpTo}
+use Rattle.view_steps.specs.Views.{World, View}
 use Rattle.base_store.specs.declared.store.Made.{Made}
-use Rattle.base_store.specs.Limits.{most_handles}
 use Rattle.base_store.specs.Nodes.{view_at}
-use Rattle.base_store.specs.Stored.{Place, Stored, IsReady, world_of, view_in, with_kept, without_temporary}
+use Rattle.base_store.specs.Stored.{Stored, view_in, without_temporary}
 use Rattle.session.specs.declared.faults.ExecFault.{ExecFault}
-use Rattle.session.specs.declared.faults.ExecFault.TheVariants.{NoMemory}
 use Rattle.session.specs.declared.following.End.{End}
 use Rattle.session.specs.declared.following.End.TheVariants as end
 use Rattle.session.specs.declared.typing.Purpose.TheVariants as purpose
 use Rattle.session.specs.Binding.{Answers, IsFull, KeptNode, KeptNothing, Keeps}
-use Rattle.session.specs.Environment.{IsSettled, NamesWithin, named, seen_as}
+use Rattle.session.specs.Coming.{seen_as}
+use Rattle.session.specs.Environment.{IsSettled, NamesWithin, named}
 use Rattle.session.specs.Executing.{Executed}
-use Rattle.session.specs.Following.{IsEnd, end_in, node_of, target}
-use Rattle.session.specs.Machine.{Outcome, let_concluded, let_of, made_name, refused, says, within_handles}
+use Rattle.session.specs.Following.{IsEnd, end_in, node_of, target_in}
+use Rattle.session.specs.Machine.{let_concluded, let_of, made_name}
+use Rattle.session.specs.Outcomes.{Outcome, refused}
 use Rattle.session.specs.Parts.{Part}
 use Rattle.session.specs.Replying.{Refuses, Said}
-use Rattle.session.specs.State.{State, ChangesUpTo, bound, view_named}
-use Rattle.session.specs.Typing.{Ending}
-use Rattle.session.proofs.CallLemmas.{calm_on, does_said}
+use Rattle.session.specs.State.{State, bound, view_named}
 use Rattle.session.proofs.EvalLemmas.{take_whole}
-use Rattle.session.proofs.NameLemmas.{bound_named, executed_said, named_more, named_view, same_text, within_more, within_room, without_room}
+use Rattle.session.proofs.FollowLemmas.{named_more}
+use Rattle.session.proofs.NameLemmas.{bound_named, executed_said, named_view, same_text, within_more, within_room, without_room}
+use Rattle.session.proofs.CallLemmas.{calm_on, does_said}
 use Rattle.session.proofs.ReplyLemmas.{said_refusal}
 use Rattle.session.proofs.SessionLemmas.{executed_silent}
 
@@ -40,12 +40,12 @@ take_short (suc n) (x ∷ xs) = omega (arith, take_short n xs)
 
 -- a store between lines is the same without its temporary nodes: it has none
 pub whole_store : (s : Stored) → length s.nodes ≡ s.lasting → without_temporary s ≡ s
-whole_store s still = λ i. record { places = s.places; nodes = (ap (λ (n : ℕ). take n s.nodes) (sym still) ∙ take_whole s.nodes) i; lasting = s.lasting; handles = s.handles }
+whole_store s still = λ i. record { world = s.world; nodes = (ap (λ (n : ℕ). take n s.nodes) (sym still) ∙ take_whole s.nodes) i; lasting = s.lasting; handles = s.handles }
 
 -- A store between lines with its names, and the same when words were followed from a node of it.
 pub record Led (s led : Stored) (names : List (List ℕ × ℕ)) (end : Result End Refusal) : Type 0 where
   pub settled : IsSettled s names
-  pub places : led.places ≡ s.places
+  pub world : led.world ≡ s.world
   pub front : without_temporary led ≡ without_temporary s
   pub ends : IsEnd led end
 
@@ -72,7 +72,6 @@ module _ (s led : Stored) (names : List (List ℕ × ℕ)) (end : Result End Ref
 module _ (s led now : Stored) (names names' : List (List ℕ × ℕ)) (name : List ℕ) (steps : ℕ) where
   pub settled_kept : (r : Result (Unit {0}) Refusal) (end : Result End Refusal) → Led s led names end → Keeps r end led now names names' name steps → IsSettled now names'
   settled_kept (Ok u) (Ok e) h k = record {
-    ready = subst (λ (ps : List Place). IsReady ps) (sym (ap (λ (x : Stored). x.places) k.kept ∙ h.places)) h.settled.ready;
     still = ap (λ (x : Stored). length x.nodes) k.kept ∙ sym (ap (λ (x : Stored). x.lasting) k.kept);
     named_within = subst (λ (ns : List (List ℕ × ℕ)). NamesWithin now.lasting ns) (sym k.entered) (within_more names name (node_of e) s.lasting now.lasting h.settled.named_within (omega (arith, ap (λ (x : Stored). x.lasting) k.kept, lasts s led names (Ok e) h)) (stands e h.ends));
   }
@@ -80,6 +79,7 @@ module _ (s led now : Stored) (names names' : List (List ℕ × ℕ)) (name : Li
       stands : (x : End) → IsEnd led (Ok x) → node_of x < now.lasting
       stands (end.View n) lt = let l : n < length led.nodes = lt in omega (arith, ap (λ (x : Stored). x.lasting) k.kept, l)
       stands (end.Call n call) lt = let l : n < length led.nodes = lt in omega (arith, ap (λ (x : Stored). x.lasting) k.kept, l)
+      stands (end.With n word other) lt = let l : n < length led.nodes = lt.0 in omega (arith, ap (λ (x : Stored). x.lasting) k.kept, l)
   settled_kept (Ok u) (Err why) h k = absurd k
   settled_kept (Err why) (Ok e) h k = subst (λ (x : Stored). IsSettled x names') (sym (as_before s led names (Ok e) h now k.0.dropped)) (subst (λ (ns : List (List ℕ × ℕ)). IsSettled s ns) (sym k.0.same) h.settled)
   settled_kept (Err why) (Err because) h k = subst (λ (x : Stored). IsSettled x names') (sym (as_before s led names (Err because) h now k.0.dropped)) (subst (λ (ns : List (List ℕ × ℕ)). IsSettled s ns) (sym k.0.same) h.settled)
@@ -96,16 +96,16 @@ module _ (s led now : Stored) (names names' : List (List ℕ × ℕ)) (name : Li
     executed_bound e h k said =
         subst (λ (o : Outcome). Executed q state_before state_now o t u f g) (sym (within_room state_before (max 1 steps) (record { reply = Some (codes "ok"); after = state_after }) (omega (arith, k.room, handles_same s led names (Ok e) h)))) (record {
           does = does_said q t u state_before state_now state_after (codes "ok") said.memory now_is said.wrote;
-          changes = λ n c. calm_on n (world_of now.places) (subst (λ (ps : List Place). ChangesUpTo n (world_of ps)) (sym places_now) c);
+          changes = λ n c. calm_on n now.world (subst (λ (w : World). ChangesUpTo n w) (sym world_now) c);
           later = said.later;
           cause = said.cause;
         })
       where
         state_after : State
-        state_after = record { bases = world_of s.places; names = bound (named s.nodes names) name (view_in led (node_of e)); handles = s.handles + max 1 steps }
+        state_after = record { bases = s.world; names = bound (named s.nodes names) name (view_in led (node_of e)); handles = s.handles + max 1 steps }
 
-        places_now : now.places ≡ s.places
-        places_now = ap (λ (x : Stored). x.places) k.kept ∙ h.places
+        world_now : now.world ≡ s.world
+        world_now = ap (λ (x : Stored). x.world) k.kept ∙ h.world
 
         names_now : named now.nodes names' ≡ bound (named s.nodes names) name (view_in led (node_of e))
         names_now =
@@ -113,7 +113,7 @@ module _ (s led now : Stored) (names names' : List (List ℕ × ℕ)) (name : Li
             ∙ ap (λ (known : List (List ℕ × View)). bound known name (view_at led.nodes (node_of e))) (names_same s led names (Ok e) h)
 
         now_is : state_now ≡ state_after
-        now_is = λ i. record { bases = world_of (places_now i); names = names_now i; handles = (ap (λ (x : Stored). x.handles) k.kept ∙ ap (λ (n : ℕ). n + max 1 steps) (handles_same s led names (Ok e) h)) i }
+        now_is = λ i. record { bases = world_now i; names = names_now i; handles = (ap (λ (x : Stored). x.handles) k.kept ∙ ap (λ (n : ℕ). n + max 1 steps) (handles_same s led names (Ok e) h)) i }
 
     -- the line is refused
     pub executed_refused : (outcome : Outcome) (why : Refusal) → now ≡ s → names' ≡ names → why ≢ refusal.NoMemory → refused state_before why ≡ outcome → Refuses why q t u f g → Executed q state_before state_now outcome t u f g
@@ -132,21 +132,23 @@ module _ (s led now : Stored) (names names' : List (List ℕ × ℕ)) (name : Li
         executed_silent s now names names' (made_name state_before name steps (view_in led (node_of e))) (as_before s led names (Ok e) h now k.dropped) k.same (subst (λ (x : Refusal). Refuses x q t u f g) memory said)
 
     -- the outcome, by what was kept and what was said
-    pub executed_kept : (r : Result (Unit {0}) Refusal) (end : Result End Refusal) → Led s led names end → Keeps r end led now names names' name steps → Answers r q t u f g → Executed q state_before state_now (let_concluded state_before name steps (Some (end_in led end))) t u f g
+    pub executed_kept : (r : Result (Unit {0}) Refusal) (end : Result End Refusal) → Led s led names end → Keeps r end led now names names' name steps → Answers r q t u f g → Executed q state_before state_now (let_concluded state_before name steps (Ok (end_in led end))) t u f g
     executed_kept (Ok v) (Ok (end.View n)) h k said = executed_bound (end.View n) h k said
     executed_kept (Ok v) (Ok (end.Call n call)) h k said = executed_bound (end.Call n call) h k said
+    executed_kept (Ok v) (Ok (end.With n word other)) h k said = executed_bound (end.With n word other) h k said
     executed_kept (Ok v) (Err why) h k said = absurd k
     executed_kept (Err why) (Ok (end.View n)) h k said = executed_unkept (end.View n) why h k.0 k.1 said
     executed_kept (Err why) (Ok (end.Call n call)) h k said = executed_unkept (end.Call n call) why h k.0 k.1 said
+    executed_kept (Err why) (Ok (end.With n word other)) h k said = executed_unkept (end.With n word other) why h k.0 k.1 said
     executed_kept (Err why) (Err because) h k said =
         executed_refused (refused state_before because) why (as_before s led names (Err because) h now k.0.dropped) k.0.same (λ m. h.ends (sym k.1 ∙ m)) (ap (refused state_before) k.1) said
 
     pub executed_let : (headname : List ℕ) (head : ℕ) (parts : List Part) (r : Result (Unit {0}) Refusal) (end : Result End Refusal) → steps ≡ length parts → lookup (same_text headname) names ≡ Some head → Led s led names end
-        → target purpose.Name (world_of s.places) (view_in s head) parts ≡ Some (end_in led end) → Keeps r end led now names names' name steps → Answers r q t u f g
+        → target_in s names purpose.Name head parts ≡ Ok (end_in led end) → Keeps r end led now names names' name steps → Answers r q t u f g
         → Executed q state_before state_now (let_of state_before name (view_named state_before.names headname) parts) t u f g
     executed_let headname head parts r end count found h leads k said = subst (λ (o : Outcome). Executed q state_before state_now o t u f g) outcome (executed_kept r end h k said)
       where
-        outcome : let_concluded state_before name steps (Some (end_in led end)) ≡ let_of state_before name (view_named state_before.names headname) parts
+        outcome : let_concluded state_before name steps (Ok (end_in led end)) ≡ let_of state_before name (view_named state_before.names headname) parts
         outcome =
-            ap (λ (n : ℕ). let_concluded state_before name n (Some (end_in led end))) count ∙ ap (let_concluded state_before name (length parts)) (sym leads)
+            ap (λ (n : ℕ). let_concluded state_before name n (Ok (end_in led end))) count ∙ ap (let_concluded state_before name (length parts)) (sym leads)
             ∙ ap (λ (v : Option View). let_of state_before name v parts) (sym (named_view s.nodes names headname ∙ ap (option_map (view_at s.nodes)) found))

@@ -1,62 +1,318 @@
 -- One word after another leads where all of them lead.
-use Rattle.std.proofs.Common.{◌≡◌, ◌<◌, ◌≤◌, Bool, true, false, List, ◌∷◌, Option, None, Some, Ok, Err, cond, nat_lt, refl, sym, ◌∙◌, ap, arith}
-use Rattle.std.specs.Option.{is_some, IsSome}
+use Rattle.std.proofs.Common.{IfSome, IsSome, is_some, ◌≡◌, ◌≢◌, ℕ, ◌+◌, ◌-◌, ◌<◌, ◌≤◌, ◌==◌, Bool, true, false, List, [], ◌∷◌, ◌++◌, length, take, drop, get_or, Option, None, Some, Result, Ok, Err, IfOk, OnOk, OnErr, cond, refl, sym, ◌∙◌, ap, subst, arith, length-append}
+use Rattle.std.specs.Result.{IsOk}
+use Rattle.std.proofs.lemmas.List.{take-append-le}
 use Rattle.std.proofs.lemmas.Bool.Decides.{nat_tests}
-use Rattle.map_views.specs.declared.calls.Call.{Call}
-use Rattle.map_views.specs.declared.refusals.Refusal.TheVariants.{Limit}
-use Rattle.map_views.specs.declared.steps.Step.{Step}
-use Rattle.map_views.specs.Views.{World, View, over, path, shape_at}
+use Rattle.base_store.specs.declared.store.Made.{Made}
+use Rattle.base_store.specs.declared.store.Made.TheVariants.{Over as step_node}
+use Rattle.base_store.specs.Stored.{Stored, view_in, with_node, without_temporary}
+use Rattle.base_store.proofs.ViewLemmas.{view_at-append}
+use Rattle.elem.specs.declared.span_texts.SpanFault.{SpanFault}
+use Rattle.elem.specs.declared.span_texts.SpanFault.TheVariants as span_fault
+use Rattle.elem.specs.declared.spans.Span.{Span}
+use Rattle.elem.specs.SpanTexts.{checked, span_text}
+use Rattle.fn_lang.specs.declared.faults.FnFault.{FnFault}
+use Rattle.fn_lang.specs.declared.faults.FnFault.TheVariants.{NotGrammar, TooLarge}
+use Rattle.fn_lang.specs.declared.names.Sort.TheVariants as sorts
+use Rattle.fn_lang.specs.declared.parts.Part.{Part as FnPart}
+use Rattle.fn_lang.specs.PartTrees.{pred_of, pair_of, func_of}
+use Rattle.fn_lang.specs.Reading.{reading}
+use Rattle.read_chain.specs.Reads.{refusal_in}
+use Rattle.script_text.specs.declared.lines.Part.{Part as Placed}
+use Rattle.script_text.specs.Parts.{part_in}
+use Rattle.session.proofs.EvalLemmas.{take_whole}
+use Rattle.session.specs.declared.typing.Fault.{Fault}
 use Rattle.session.specs.declared.typing.Purpose.{Purpose}
-use Rattle.session.specs.Parts.{Part}
 use Rattle.session.specs.declared.typing.Typed.{Typed}
 use Rattle.session.specs.declared.typing.Typed.TheVariants as typed
-use Rattle.session.specs.Following.{target}
-use Rattle.session.specs.Machine.{reach, with_ending, made, unless}
-use Rattle.session.specs.Typing.{Typing, calls, before, go_on, shape_by, typed_words, typed_word, is_empty, may_call}
+use Rattle.session.specs.Arguments.{of_parts, step_with, within_range}
+use Rattle.session.specs.Environment.{NamesWithin, named}
+use Rattle.session.specs.Following.{Followed, IsTyped, Stepped, Steps, meaning_in, meant_in, target_in}
+use Rattle.session.specs.Machine.{and_then, made, reach, step_over, target, with_ending}
+use Rattle.session.specs.Parts.{Part, parts_in, text_at}
+use Rattle.session.specs.Typing.{Ending, Meaning, Typing, a_step, before, ends, go_on, is_empty, may_call, steps_to, typed_word, typed_words}
+use Rattle.view_steps.specs.declared.refusals.Refusal.{Refusal}
+use Rattle.view_steps.specs.declared.refusals.Refusal.TheVariants.{IllegalArgument, Limit, NoMemory}
+use Rattle.view_steps.specs.declared.shapes.Shape.{Shape}
+use Rattle.view_steps.specs.declared.steps.Step.{Step}
+use Rattle.view_steps.specs.declared.steps.Step.TheVariants as step
+use Rattle.view_steps.specs.declared.steps.StepForm.{StepForm}
+use Rattle.view_steps.specs.declared.steps.StepForm.TheVariants as form
+use Rattle.view_steps.specs.Answering.{unless_refused}
+use Rattle.view_steps.specs.KeptSteps.{first_refusal, kept, step_refusal}
+use Rattle.view_steps.specs.Steps.{apply, apply_form, form_of_step}
+use Rattle.view_steps.specs.Views.{World, View, over, path, shape_after, shape_at}
 
--- a step that is not refused leads on from the view that it makes
-reach_on : (world : World) (view : View) (it : Step) (t : Option Typing) → nat_lt (path view) 32 ≡ true → reach world view (before it t) ≡ reach world (over it view) t
-reach_on world view it None lt = refl
-reach_on world view it (Some t) lt = ap (λ (b : Bool). Some (with_ending t.ending (unless (cond b None (Some Limit)) (made world (over it view) t.steps)))) lt
+-- ---- a step over a view
 
--- one that is refused leads nowhere
-reach_limit : (world : World) (view : View) (it : Step) (t : Option Typing) → IsSome (before it t) → nat_lt (path view) 32 ≡ false → reach world view (before it t) ≡ Some (Err Limit)
-reach_limit world view it None some ge = cc
-reach_limit world view it (Some t) some ge = ap (λ (b : Bool). Some (with_ending t.ending (unless (cond b None (Some Limit)) (made world (over it view) t.steps)))) ge
-
-words_at : (purpose : Purpose) (world : World) (view : View) (part : Part) (parts : List Part) (word : Option Typed) → typed_word (may_call purpose (is_empty parts)) (shape_at world view) part ≡ word
-    → typed_words purpose (shape_at world view) (part ∷ parts) ≡ go_on (shape_at world view) (λ next. typed_words purpose next parts) word
-words_at purpose world view part parts word e = ap (go_on (shape_at world view) (λ next. typed_words purpose next parts)) e
-
--- ---- the arms: what a word is, and where the words lead then
-
-pub on_step : (purpose : Purpose) (world : World) (view : View) (part : Part) (parts : List Part) (it : Step) → typed_word (may_call purpose (is_empty parts)) (shape_at world view) part ≡ Some (typed.Step it) → path view < 32
-    → target purpose world view (part ∷ parts) ≡ target purpose world (over it view) parts
-on_step purpose world view part parts it e lt =
-    let test : nat_lt (path view) 32 ≡ true = grind (arith, nat_tests) in
-    ap (reach world view) (words_at purpose world view part parts (Some (typed.Step it)) e) ∙ reach_on world view it (typed_words purpose (shape_by (shape_at world view) it) parts) test
-
-pub on_limit : (purpose : Purpose) (world : World) (view : View) (part : Part) (parts : List Part) (it : Step) → typed_word (may_call purpose (is_empty parts)) (shape_at world view) part ≡ Some (typed.Step it) → 32 ≤ path view
-    → IsSome (target purpose world view (part ∷ parts)) → target purpose world view (part ∷ parts) ≡ Some (Err Limit)
-on_limit purpose world view part parts it e ge some =
-    let test : nat_lt (path view) 32 ≡ false = grind (arith, nat_tests) in
-    let words = words_at purpose world view part parts (Some (typed.Step it)) e in
-    ap (reach world view) words ∙ reach_limit world view it (typed_words purpose (shape_by (shape_at world view) it) parts) (is_typed _ (sym (ap is_some (ap (reach world view) words)) ∙ some)) test
+-- the refusal of a step is no want of memory
+pub refusal_said : (world : World) (view : View) (it : Step) (why : Refusal) → step_refusal world view it ≡ Some why → why ≢ NoMemory
+refusal_said world view it why e = by _ _ e
   where
-    is_typed : (t : Option Typing) → IsSome (reach world view t) → IsSome t
-    is_typed None some = cc
-    is_typed (Some t) some = refl
+    by : (a b : Bool) → first_refusal (cond a None (Some IllegalArgument)) (cond b None (Some Limit)) ≡ Some why → why ≢ NoMemory
+    by true true e = λ m. cc
+    by true false e = λ m. cc
+    by false b e = λ m. cc
 
-pub on_call : (purpose : Purpose) (world : World) (view : View) (part : Part) (parts : List Part) (it : Call) → typed_word (may_call purpose (is_empty parts)) (shape_at world view) part ≡ Some (typed.Call it)
-    → target purpose world view (part ∷ parts) ≡ Some (Ok (view, calls it))
-on_call purpose world view part parts it e = ap (reach world view) (words_at purpose world view part parts (Some (typed.Call it)) e)
+-- the view of a step, as it is made or refused
+pub steps_made : (s now : Stored) (node : ℕ) (step : Step) (r : Result ℕ Refusal) → refusal_in r ≡ step_refusal s.world (view_in s node) step → IfOk r (λ n. n ≡ length s.nodes)
+    → IfOk r (λ n. view_in now n ≡ over (kept s.world (view_in s node) step) (view_in s node)) → OnOk r (now ≡ with_node s (step_node (kept s.world (view_in s node) step) node)) → OnErr r (now ≡ s) → Steps s now node (Ok step) r
+steps_made s now node step (Ok n) refusal number view grown err = record {
+  added = step_node (kept s.world (view_in s node) step) node;
+  grown = grown;
+  number = number;
+  view = ap (λ (o : Option Refusal). unless_refused o (Ok (over (kept s.world (view_in s node) step) (view_in s node)))) (sym refusal) ∙ ap (λ (v : View). Ok v) (sym view);
+}
+steps_made s now node step (Err why) refusal number view grown err = (
+  err,
+  ap (λ (o : Option Refusal). unless_refused o (Ok (over (kept s.world (view_in s node) step) (view_in s node)))) (sym refusal),
+  refusal_said s.world (view_in s node) step why (sym refusal),
+)
 
-pub on_none : (purpose : Purpose) (world : World) (view : View) (part : Part) (parts : List Part) → typed_word (may_call purpose (is_empty parts)) (shape_at world view) part ≡ None → target purpose world view (part ∷ parts) ≡ None
-on_none purpose world view part parts e = ap (reach world view) (words_at purpose world view part parts None e)
+pub steps_refused : (s : Stored) (node : ℕ) (step : Step) (why : Refusal) → step_refusal s.world (view_in s node) step ≡ Some why → (s ≡ s) × (step_over s.world (view_in s node) (Ok step) ≡ Err why) × (why ≢ NoMemory)
+steps_refused s node step why refusal = (
+  refl,
+  ap (λ (o : Option Refusal). unless_refused o (Ok (over (kept s.world (view_in s node) step) (view_in s node)))) refusal,
+  refusal_said s.world (view_in s node) step why refusal,
+)
 
-pub target_some : (purpose : Purpose) (world : World) (view : View) (parts : List Part) → IsSome (typed_words purpose (shape_at world view) parts) → IsSome (target purpose world view parts)
-target_some purpose world view parts some = by (typed_words purpose (shape_at world view) parts) some
+-- ---- the shape that a step gives
+
+-- a step that is read has the form that was asked for
+abbrev IsOf : StepForm → Option (Result Step Refusal) → Type 0
+IsOf form read = IfSome read (λ it. IfOk it (λ (s : Step). form_of_step s ≡ form))
+
+parts_of : (form : StepForm) (make : List FnPart → Step) → ((parts : List FnPart) → form_of_step (make parts) ≡ form) → (r : Result (List FnPart) FnFault) → IsOf form (of_parts make r)
+parts_of form make h (Ok parts) = h parts
+parts_of form make h (Err NotGrammar) = tt
+parts_of form make h (Err TooLarge) = tt
+
+range_of : (r : Result Span SpanFault) → IsOf form.Within (within_range r)
+range_of (Ok range) = refl
+range_of (Err span_fault.NotGrammar) = tt
+range_of (Err span_fault.Invalid) = tt
+
+read_of : (form : StepForm) (text : List ℕ) → IsOf form (step_with form text)
+read_of (form.Plain word) text = refl
+read_of (form.Filter word) text = parts_of (form.Filter word) (λ parts. step.Filter word (pred_of parts)) (λ parts. refl) (reading sorts.Pred text)
+read_of form.FilterPairs text = parts_of form.FilterPairs (λ parts. step.FilterPairs (pair_of parts)) (λ parts. refl) (reading sorts.PairPred text)
+read_of (form.Change word) text = parts_of (form.Change word) (λ parts. step.Change word (func_of parts)) (λ parts. refl) (reading sorts.Func text)
+read_of form.Within text = range_of (checked (span_text text))
+
+-- a step gives this shape on views of a shape
+abbrev pub Gives : Shape → Shape → Result Step Refusal → Type 0
+Gives on next it = IfOk it (λ (s : Step). apply on s ≡ Some next)
+
+gives : (form : StepForm) (text : List ℕ) (on next : Shape) (it : Result Step Refusal) → step_with form text ≡ Some it → apply_form on form ≡ Some next → Gives on next it
+gives form text on next it read shaped = by it (subst (IsOf form) read (read_of form text))
   where
-    by : (t : Option Typing) → IsSome t → IsSome (reach world view t)
-    by None some = cc
-    by (Some t) some = refl
+    by : (it : Result Step Refusal) → IsOf form (Some it) → Gives on next it
+    by (Ok s) is = ap (apply_form on) is ∙ shaped
+    by (Err why) is = tt
+
+-- a step that is kept gives the shape that it gives as it is asked for
+apply_kept : (world : World) (view : View) (it : Step) (on : Shape) → apply on (kept world view it) ≡ apply on it
+apply_kept world view (step.Plain word) on = refl
+apply_kept world view (step.Filter word p) on = refl
+apply_kept world view (step.FilterPairs q) on = refl
+apply_kept world view (step.Change word f) on = refl
+apply_kept world view (step.Within order w) on = refl
+
+-- a view of a step has the shape that the step gives, and one step more leads there
+pub record IsOver (world : World) (view made : View) (next : Shape) : Type 0 where
+  pub shape : shape_at world made ≡ next
+  pub longer : path made ≡ path view + 1
+
+pub over_is : (world : World) (view made : View) (it : Result Step Refusal) (next : Shape) → Gives (shape_at world view) next it → step_over world view it ≡ Ok made → IsOver world view made next
+over_is world view made (Err why) next given e = cc
+over_is world view made (Ok it) next given e = by _ e
+  where
+    by : (o : Option Refusal) → unless_refused o (Ok (over (kept world view it) view)) ≡ Ok made → IsOver world view made next
+    by (Some why) e = cc
+    by None e =
+        let same : made ≡ over (kept world view it) view = cc in
+        record {
+          shape = ap (shape_at world) same ∙ ap (shape_after (shape_at world view)) (apply_kept world view it (shape_at world view) ∙ given);
+          longer = ap path same;
+        }
+
+-- ---- the words
+
+-- names stand for what they stood for where only nodes were added
+pub named_more : (nodes more : List Made) (names : List (List ℕ × ℕ)) → NamesWithin (length nodes) names → named (nodes ++ more) names ≡ named nodes names
+named_more nodes more [] h = refl
+named_more nodes more (e ∷ names) h = λ i. (e.0, view_at-append nodes more e.1 h.0 i) ∷ named_more nodes more names h.1 i
+
+pub within_wider : (names : List (List ℕ × ℕ)) (n m : ℕ) → n ≤ m → NamesWithin n names → NamesWithin m names
+within_wider [] n m le h = tt
+within_wider (e ∷ names) n m le h = let old : e.1 < n = h.0 in (omega (arith, old, le), within_wider names n m le h.1)
+
+module _ (names : List (List ℕ × ℕ)) (purpose : Purpose) (s : Stored) (node : ℕ) (part : Part) (parts : List Part) where
+  abbrev word : Result Meaning Fault
+  word = typed_word s.world (named s.nodes names) (may_call purpose (is_empty parts)) (shape_at s.world (view_in s node)) part
+
+  -- where what is left leads, by what its first word does
+  by_word : (m : Result Meaning Fault) → word ≡ m → target_in s names purpose node (part ∷ parts) ≡ reach s.world (view_in s node) (go_on (λ next. typed_words s.world (named s.nodes names) purpose next parts) m)
+  by_word m e = ap (λ (x : Result Meaning Fault). reach s.world (view_in s node) (go_on (λ next. typed_words s.world (named s.nodes names) purpose next parts) x)) e
+
+  pub on_fault : (fault : Fault) → word ≡ Err fault → target_in s names purpose node (part ∷ parts) ≡ Err fault
+  on_fault fault e = by_word (Err fault) e
+
+  pub on_end : (ending : Ending) → word ≡ Ok (ends ending) → target_in s names purpose node (part ∷ parts) ≡ Ok (Ok (view_in s node, ending))
+  on_end ending e = by_word (Ok (ends ending)) e
+
+  pub on_refused : (it : Result Step Refusal) (next : Shape) (why : Refusal) → word ≡ Ok (steps_to it next) → step_over s.world (view_in s node) it ≡ Err why → IsOk (target_in s names purpose node (part ∷ parts))
+      → target_in s names purpose node (part ∷ parts) ≡ Ok (Err why)
+  on_refused it next why e refused ok = by_word (Ok (steps_to it next)) e ∙ by (typed_words s.world (named s.nodes names) purpose next parts) (subst (λ (x : Result (Result (View × Ending) Refusal) Fault). IsOk x) (by_word (Ok (steps_to it next)) e) ok)
+    where
+      by : (t : Result Typing Fault) → IsOk (reach s.world (view_in s node) (before it t)) → reach s.world (view_in s node) (before it t) ≡ Ok (Err why)
+      by (Err fault) ok = cc
+      by (Ok t) ok = ap (λ (r : Result View Refusal). Ok (with_ending t.ending (and_then (λ v. made s.world v t.steps) r))) refused
+
+  pub on_step : (now : Stored) (it : Result Step Refusal) (next : Shape) (new : ℕ) → NamesWithin (length s.nodes) names → word ≡ Ok (steps_to it next) → Gives (shape_at s.world (view_in s node)) next it → Stepped s now node it new
+      → target_in s names purpose node (part ∷ parts) ≡ target_in now names purpose new parts
+  on_step now it next new within e given h =
+      by_word (Ok (steps_to it next)) e ∙ by (typed_words s.world (named s.nodes names) purpose next parts)
+      ∙ ap (λ (x : Shape). reach s.world (view_in now new) (typed_words s.world (named s.nodes names) purpose x parts)) (sym above.shape)
+      ∙ (λ i. target (worlds i) (views i) purpose (view_in now new) parts)
+    where
+      above : IsOver s.world (view_in s node) (view_in now new) next
+      above = over_is s.world (view_in s node) (view_in now new) it next given h.view
+
+      by : (t : Result Typing Fault) → reach s.world (view_in s node) (before it t) ≡ reach s.world (view_in now new) t
+      by (Err fault) = refl
+      by (Ok t) = ap (λ (r : Result View Refusal). Ok (with_ending t.ending (and_then (λ v. made s.world v t.steps) r))) h.view
+
+      worlds : s.world ≡ now.world
+      worlds = sym (ap (λ (x : Stored). x.world) h.grown)
+
+      views : named s.nodes names ≡ named now.nodes names
+      views = sym (ap (λ (x : Stored). named x.nodes names) h.grown ∙ named_more s.nodes (h.added ∷ []) names within)
+
+-- ---- what the loop keeps
+
+pub target_ok : (world : World) (view : View) (t : Result Typing Fault) → IsOk t → IsOk (reach world view t)
+target_ok world view (Err fault) ok = cc
+target_ok world view (Ok t) ok = ok
+
+pub followed_start : (names : List (List ℕ × ℕ)) (purpose : Purpose) (s : Stored) (head : ℕ) (parts : List Part) → head < length s.nodes → length s.nodes ≡ s.lasting → Followed names purpose s s head head parts parts
+followed_start names purpose s head parts lt still = record { world = refl; front = refl; within = omega arith; stands = lt; room = omega arith; same = refl }
+
+-- the names stand for nodes that are there
+pub names_in : (names : List (List ℕ × ℕ)) (purpose : Purpose) (first s : Stored) (head node : ℕ) (all rest : List Part) → Followed names purpose first s head node all rest → NamesWithin first.lasting names → NamesWithin (length s.nodes) names
+names_in names purpose first s head node all rest f within = within_wider names first.lasting (length s.nodes) (let same : s.lasting ≡ first.lasting = ap (λ (x : Stored). x.lasting) f.front in let le : s.lasting ≤ length s.nodes = f.within in omega (arith, same, le)) within
+
+module _ (names : List (List ℕ × ℕ)) (purpose : Purpose) (first s : Stored) (head node : ℕ) (all : List Part) (part : Part) (parts : List Part) (f : Followed names purpose first s head node all (part ∷ parts)) where
+  -- what is left has no fault where all words have none
+  pub left_ok : IsOk (typed_words first.world (named first.nodes names) purpose (shape_at first.world (view_in first head)) all) → IsOk (target_in s names purpose node (part ∷ parts))
+  left_ok ok = subst (λ (x : Result (Result (View × Ending) Refusal) Fault). IsOk x) f.same (target_ok first.world (view_in first head) (typed_words first.world (named first.nodes names) purpose (shape_at first.world (view_in first head)) all) ok)
+
+  pub followed_more : (now : Stored) (it : Result Step Refusal) (next : Shape) (new : ℕ) → NamesWithin first.lasting names → typed_word s.world (named s.nodes names) (may_call purpose (is_empty parts)) (shape_at s.world (view_in s node)) part ≡ Ok (steps_to it next)
+      → Gives (shape_at s.world (view_in s node)) next it → Stepped s now node it new → Followed names purpose first now head new all parts
+  followed_more now it next new within e given h = record {
+    world = ap (λ (x : Stored). x.world) h.grown ∙ f.world;
+    front = ap without_temporary h.grown ∙ (λ i. record { world = s.world; nodes = fronts i; lasting = s.lasting; handles = s.handles }) ∙ f.front;
+    within = let le : s.lasting ≤ length s.nodes = f.within in omega (arith, lasts, grows, le);
+    stands = omega (arith, h.number, grows);
+    room = let le : length s.nodes ≤ s.lasting + path (view_in s node) = f.room in omega (arith, lasts, grows, le, above.longer);
+    same = f.same ∙ on_step names purpose s node part parts now it next new (names_in names purpose first s head node all (part ∷ parts) f within) e given h;
+  }
+    where
+      above : IsOver s.world (view_in s node) (view_in now new) next
+      above = over_is s.world (view_in s node) (view_in now new) it next given h.view
+
+      lasts : now.lasting ≡ s.lasting
+      lasts = ap (λ (x : Stored). x.lasting) h.grown
+
+      grows : length now.nodes ≡ length s.nodes + 1
+      grows = ap (λ (x : Stored). length x.nodes) h.grown ∙ length-append s.nodes (h.added ∷ [])
+
+      fronts : take s.lasting (s.nodes ++ h.added ∷ []) ≡ take s.lasting s.nodes
+      fronts = let le : s.lasting ≤ length s.nodes = f.within in take-append-le s.lasting s.nodes (h.added ∷ []) le
+
+-- ---- a turn of the loop
+
+abbrev behind : List Placed → List Placed
+behind rest = take (length rest - 1) (drop 1 rest)
+
+-- a list that has an element is its first one and what is behind it
+first_behind : (rest : List Placed) (part : Placed) → 1 ≤ length rest → part ≡ get_or rest 0 part → rest ≡ part ∷ behind rest
+first_behind [] part le e = absurd (omega arith)
+first_behind (p ∷ ps) part le e = let same : p ≡ part = sym e in λ i. same i ∷ all i
+  where
+    all : ps ≡ behind (p ∷ ps)
+    all = sym (ap (λ (n : ℕ). take n ps) (let e : length (p ∷ ps) - 1 ≡ length ps = omega arith in e) ∙ take_whole ps)
+
+empty_is : (line : List ℕ) (ps : List Placed) → (length ps == 0) ≡ is_empty (parts_in line ps)
+empty_is line [] = refl
+empty_is line (p ∷ ps) = grind (arith, nat_tests)
+
+-- what is known where a word was typed
+pub record IsAt (names : List (List ℕ × ℕ)) (purpose : Purpose) (first s : Stored) (head node : ℕ) (all : List Part) (line : List ℕ) (rest : List Placed) (part : Placed) (on : Shape) (r : Result Typed Fault) : Type 0 where
+  pub within : NamesWithin first.lasting names
+  pub ok : IsOk (typed_words first.world (named first.nodes names) purpose (shape_at first.world (view_in first head)) all)
+  pub followed : Followed names purpose first s head node all (parts_in line rest)
+  pub there : 1 ≤ length rest
+  pub item : part ≡ get_or rest 0 part
+  pub shape : on ≡ shape_at s.world (view_in s node)
+  pub meant : meant_in s (text_at (part_in line part).args 0) r ≡ typed_word s.world (named s.nodes names) (may_call purpose (length (behind rest) == 0)) on (part_in line part)
+  pub typed : IfOk r (λ it. IsTyped s on (text_at (part_in line part).args 0) it)
+
+module _ (names : List (List ℕ × ℕ)) (purpose : Purpose) (first s : Stored) (head node : ℕ) (all : List Part) (line : List ℕ) (rest : List Placed) (part : Placed) (on : Shape) (r : Result Typed Fault) (at : IsAt names purpose first s head node all line rest part on r) where
+  -- the words lead to a refusal, and nothing changed
+  pub record IsRefused (now : Stored) (why : Refusal) : Type 0 where
+    pub same : now ≡ s
+    pub led : target_in first names purpose head all ≡ Ok (Err why)
+    pub said : why ≢ NoMemory
+
+  whole : Followed names purpose first s head node all (part_in line part ∷ parts_in line (behind rest))
+  whole = subst (λ (ps : List Placed). Followed names purpose first s head node all (parts_in line ps)) (first_behind rest part at.there at.item) at.followed
+
+  abbrev text : List ℕ
+  text = text_at (part_in line part).args 0
+
+  word_is : (it : Result Typed Fault) → r ≡ it → typed_word s.world (named s.nodes names) (may_call purpose (is_empty (parts_in line (behind rest)))) (shape_at s.world (view_in s node)) (part_in line part) ≡ meant_in s text it
+  word_is it e =
+      sym (λ i. typed_word s.world (named s.nodes names) (may_call purpose (empty_is line (behind rest) i)) (at.shape i) (part_in line part)) ∙ sym at.meant ∙ ap (meant_in s text) e
+
+  module _ (form : StepForm) (next : Shape) (e : r ≡ Ok (typed.Step form next)) where
+    step_is : IsTyped s on text (typed.Step form next)
+    step_is = subst (λ (x : Result Typed Fault). IfOk x (λ it. IsTyped s on text it)) e at.typed
+
+    -- views of the node have the step
+    pub has_step : IsSome (apply_form (shape_at s.world (view_in s node)) form)
+    has_step = ap is_some (ap (λ (x : Shape). apply_form x form) (sym at.shape) ∙ step_is.0)
+
+    step_read : (it : Result Step Refusal) → step_with form text ≡ Some it → typed_word s.world (named s.nodes names) (may_call purpose (is_empty (parts_in line (behind rest)))) (shape_at s.world (view_in s node)) (part_in line part) ≡ Ok (steps_to it next)
+    step_read it read = word_is (Ok (typed.Step form next)) e ∙ ap (λ (o : Option (Result Step Refusal)). a_step o (Some next)) read
+
+    step_gives : (it : Result Step Refusal) → step_with form text ≡ Some it → Gives (shape_at s.world (view_in s node)) next it
+    step_gives it read = gives form text (shape_at s.world (view_in s node)) next it read (ap (λ (x : Shape). apply_form x form) (sym at.shape) ∙ step_is.0)
+
+    pub at_step : (now : Stored) (a : List ℕ) (new : ℕ) → a ≡ text → IfSome (step_with form a) (λ it. Steps s now node it (Ok new)) → Followed names purpose first now head new all (parts_in line (behind rest))
+    at_step now a new same h = by (step_with form text) refl step_is.1 (subst (λ (x : List ℕ). IfSome (step_with form x) (λ it. Stepped s now node it new)) same h)
+      where
+        by : (o : Option (Result Step Refusal)) → step_with form text ≡ o → IsSome o → IfSome o (λ it. Stepped s now node it new) → Followed names purpose first now head new all (parts_in line (behind rest))
+        by None read some h = cc
+        by (Some it) read some h = followed_more names purpose first s head node all (part_in line part) (parts_in line (behind rest)) whole now it next new at.within (step_read it read) (step_gives it read) h
+
+    pub at_refused : (now : Stored) (a : List ℕ) (why : Refusal) → a ≡ text → IfSome (step_with form a) (λ it. Steps s now node it (Err why)) → IsRefused now why
+    at_refused now a why same h = by (step_with form text) refl step_is.1 (subst (λ (x : List ℕ). IfSome (step_with form x) (λ it. Steps s now node it (Err why))) same h)
+      where
+        by : (o : Option (Result Step Refusal)) → step_with form text ≡ o → IsSome o → IfSome o (λ it. Steps s now node it (Err why)) → IsRefused now why
+        by None read some h = cc
+        by (Some it) read some h = record {
+          same = h.0;
+          led = whole.same ∙ on_refused names purpose s node (part_in line part) (parts_in line (behind rest)) it next why (step_read it read) h.1 (left_ok names purpose first s head node all (part_in line part) (parts_in line (behind rest)) whole at.ok);
+          said = h.2;
+        }
+
+  pub at_end : (it : Typed) (ending : Ending) → r ≡ Ok it → meaning_in s text it ≡ Ok (ends ending) → target_in first names purpose head all ≡ Ok (Ok (view_in s node, ending))
+  at_end it ending e is = whole.same ∙ on_end names purpose s node (part_in line part) (parts_in line (behind rest)) ending (word_is (Ok it) e ∙ is)
+
+  -- words without a fault have none
+  pub at_fault : (fault : Fault) → r ≡ Err fault → ⊥
+  at_fault fault e =
+      let ok : IsOk (target_in s names purpose node (part_in line part ∷ parts_in line (behind rest))) = left_ok names purpose first s head node all (part_in line part) (parts_in line (behind rest)) whole at.ok in
+      let no = subst (λ (x : Result (Result (View × Ending) Refusal) Fault). IsOk x) (on_fault names purpose s node (part_in line part) (parts_in line (behind rest)) fault (word_is (Err fault) e)) ok in
+      cc

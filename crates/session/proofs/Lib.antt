@@ -1,13 +1,10 @@
-pub mod TypingLemmas
 pub mod TextLemmas
 pub mod ReplyLemmas
-pub mod EntryLemmas
-pub mod FollowLemmas
-pub mod PrintLemmas
-pub mod ViewLemmas
-pub mod WriteLemmas
 pub mod CallLemmas
+pub mod PrintLemmas
 pub mod EvalLemmas
+pub mod FollowLemmas
 pub mod NameLemmas
+pub mod TypingLemmas
 pub mod SessionLemmas
 pub mod BindLemmas

@@ -5,27 +5,29 @@ use Rattle.std.specs.Cmp.Lexicographic.{pointwise}
 use Rattle.std.specs.Map.{lookup}
 use Rattle.std.specs.Option.{option_map}
 use Rattle.std.specs.Result.{is_err, IsOk}
-use Rattle.std.proofs.lemmas.List.{length-map, map-append}
 use Rattle.indexmap.specs.IndexMap.{insert_entry}
 use Rattle.std.proofs.lemmas.Bool.Decides.{nat_tests}
-use Rattle.map_views.specs.declared.kinds.Kind.{Kind}
-use Rattle.map_views.specs.declared.refusals.Refusal.TheVariants.{Limit}
-use Rattle.map_views.specs.Views.{World, View, base, empty_base}
+use Rattle.view_steps.specs.declared.kinds.Kind.{Kind}
+use Rattle.view_steps.specs.declared.refusals.Refusal.TheVariants.{Limit}
+use Rattle.view_steps.specs.Limits.{ChangesUpTo}
+use Rattle.view_steps.specs.Views.{World, View, base, empty_base}
 use Rattle.base_store.specs.declared.store.Made.{Made}
 use Rattle.base_store.specs.declared.store.Made.TheVariants as made
 use Rattle.base_store.specs.Nodes.{view_at}
 use Rattle.base_store.specs.Limits.{most_handles}
-use Rattle.base_store.specs.Stored.{Stored, IsReady, world_of, base_in, there, with_base}
+use Rattle.base_store.specs.Stored.{Stored, with_base}
 use Rattle.base_store.proofs.NodeLemmas.{added_base}
-use Rattle.base_store.proofs.ViewLemmas.{view_at-append}
 use Rattle.session.specs.declared.faults.ExecFault.{ExecFault}
-use Rattle.session.specs.Environment.{named, seen_as, NamesWithin, IsSettled}
+use Rattle.session.specs.Coming.{seen_as}
+use Rattle.session.specs.Environment.{named, NamesWithin, IsSettled}
 use Rattle.session.specs.Executing.{Executed}
-use Rattle.session.specs.Machine.{Outcome, made_new, refused, says, within_handles}
+use Rattle.session.specs.Machine.{made_new, within_handles}
+use Rattle.session.specs.Outcomes.{Outcome, refused, says}
 use Rattle.session.specs.Replying.{Said}
-use Rattle.session.specs.State.{State, bound, ChangesUpTo, view_named}
+use Rattle.session.specs.State.{State, bound, view_named}
 use Rattle.session.proofs.CallLemmas.{calm_on, does_said}
 use Rattle.session.proofs.EvalLemmas.{take_whole}
+use Rattle.session.proofs.FollowLemmas.{named_more, within_wider}
 
 abbrev pub same_text : List ℕ → List ℕ → Bool
 same_text = pointwise nat_eq
@@ -69,11 +71,6 @@ bound_named nodes (e ∷ names) name n = by (same_text name e.0) (bound_named no
     by true rest = refl
     by false rest = ap (λ (ns : List (List ℕ × View)). (e.0, view_at nodes e.1) ∷ ns) rest
 
--- the views of names are those that they had where only nodes were added
-pub named_more : (nodes more : List Made) (names : List (List ℕ × ℕ)) → NamesWithin (length nodes) names → named (nodes ++ more) names ≡ named nodes names
-named_more nodes more [] h = refl
-named_more nodes more (e ∷ names) h = λ i. (e.0, view_at-append nodes more e.1 h.0 i) ∷ named_more nodes more names h.1 i
-
 pub within_more : (names : List (List ℕ × ℕ)) (name : List ℕ) (node n m : ℕ) → NamesWithin n names → n ≤ m → node < m → NamesWithin m (insert_entry same_text names name node)
 within_more [] name node n m h le lt = (lt, tt)
 within_more (e ∷ names) name node n m h le lt = by (same_text name e.0) (within_more names name node n m h.1 le lt)
@@ -81,12 +78,8 @@ within_more (e ∷ names) name node n m h le lt = by (same_text name e.0) (withi
     first : e.1 < m
     first = let old : e.1 < n = h.0 in omega (arith, old, le)
 
-    wider : (fs : List (List ℕ × ℕ)) → NamesWithin n fs → NamesWithin m fs
-    wider [] k = tt
-    wider (f ∷ fs) k = let old : f.1 < n = k.0 in (omega (arith, old, le), wider fs k.1)
-
     by : (b : Bool) → NamesWithin m (insert_entry same_text names name node) → NamesWithin m (cond b ((e.0, node) ∷ names) (e ∷ insert_entry same_text names name node))
-    by true rest = (lt, wider names h.1)
+    by true rest = (lt, within_wider names n m le h.1)
     by false rest = (first, rest)
 
 pub ok_part : {T E P : Type 0} (r : Result T E) → is_err r ≡ false → OnOk r P → P
@@ -101,42 +94,39 @@ ok_at (Err x) e h = cc
 pub record Added (s now : Stored) (names names' : List (List ℕ × ℕ)) (name : List ℕ) (kind : Kind) : Type 0 where
   pub settled : IsSettled s names
   pub grown : now ≡ with_base s kind
-  pub ready : IsReady now.places
   pub room : s.handles < most_handles
   pub entered : names' ≡ insert_entry same_text names name s.lasting
 
 module _ (s now : Stored) (names names' : List (List ℕ × ℕ)) (name : List ℕ) (kind : Kind) (h : Added s now names names' name kind) where
-  nodes_now : now.nodes ≡ s.nodes ++ made.Base (length s.places) ∷ []
-  nodes_now = ap (λ (x : Stored). x.nodes) h.grown ∙ ap (λ (ns : List Made). ns ++ made.Base (length s.places) ∷ []) (ap (λ (n : ℕ). take n s.nodes) (sym h.settled.still) ∙ take_whole s.nodes)
+  nodes_now : now.nodes ≡ s.nodes ++ made.Base (length s.world) ∷ []
+  nodes_now = ap (λ (x : Stored). x.nodes) h.grown ∙ ap (λ (ns : List Made). ns ++ made.Base (length s.world) ∷ []) (ap (λ (n : ℕ). take n s.nodes) (sym h.settled.still) ∙ take_whole s.nodes)
 
   lasting_now : now.lasting ≡ s.lasting + 1
   lasting_now = ap (λ (x : Stored). x.lasting) h.grown
 
   pub settled_more : IsSettled now names'
   settled_more = record {
-    ready = h.ready;
-    still = ap (λ (ns : List Made). length ns) nodes_now ∙ length-append s.nodes (made.Base (length s.places) ∷ []) ∙ ap (λ (n : ℕ). n + 1) h.settled.still ∙ sym lasting_now;
+    still = ap (λ (ns : List Made). length ns) nodes_now ∙ length-append s.nodes (made.Base (length s.world) ∷ []) ∙ ap (λ (n : ℕ). n + 1) h.settled.still ∙ sym lasting_now;
     named_within = subst (λ (ns : List (List ℕ × ℕ)). NamesWithin now.lasting ns) (sym h.entered) (within_more names name s.lasting s.lasting now.lasting h.settled.named_within (omega (arith, lasting_now)) (omega (arith, lasting_now)));
   }
 
-  worlds : world_of now.places ≡ world_of s.places ++ empty_base kind ∷ []
-  worlds = ap (λ (x : Stored). world_of x.places) h.grown ∙ map-append base_in s.places (there (empty_base kind) ∷ [])
+  worlds : now.world ≡ s.world ++ empty_base kind ∷ []
+  worlds = ap (λ (x : Stored). x.world) h.grown
 
-  names_now : named now.nodes names' ≡ bound (named s.nodes names) name (base (length (world_of s.places)))
+  names_now : named now.nodes names' ≡ bound (named s.nodes names) name (base (length s.world))
   names_now =
       ap (λ (ns : List (List ℕ × ℕ)). named now.nodes ns) h.entered ∙ bound_named now.nodes names name s.lasting
       ∙ ap (λ (ns : List Made). bound (named ns names) name (view_at ns s.lasting)) nodes_now
-      ∙ ap (λ (known : List (List ℕ × View)). bound known name (view_at (s.nodes ++ made.Base (length s.places) ∷ []) s.lasting)) (named_more s.nodes (made.Base (length s.places) ∷ []) names (subst (λ (n : ℕ). NamesWithin n names) (sym h.settled.still) h.settled.named_within))
-      ∙ ap (λ (n : ℕ). bound (named s.nodes names) name (view_at (s.nodes ++ made.Base (length s.places) ∷ []) n)) (sym h.settled.still)
-      ∙ ap (λ (v : View). bound (named s.nodes names) name v) (added_base s.nodes (length s.places))
-      ∙ ap (λ (n : ℕ). bound (named s.nodes names) name (base n)) (sym (length-map s.places base_in))
+      ∙ ap (λ (known : List (List ℕ × View)). bound known name (view_at (s.nodes ++ made.Base (length s.world) ∷ []) s.lasting)) (named_more s.nodes (made.Base (length s.world) ∷ []) names (subst (λ (n : ℕ). NamesWithin n names) (sym h.settled.still) h.settled.named_within))
+      ∙ ap (λ (n : ℕ). bound (named s.nodes names) name (view_at (s.nodes ++ made.Base (length s.world) ∷ []) n)) (sym h.settled.still)
+      ∙ ap (λ (v : View). bound (named s.nodes names) name v) (added_base s.nodes (length s.world))
 
   -- the outcome of a line that makes a base
   abbrev pub state_before : State
   state_before = seen_as s (named s.nodes names)
 
   abbrev pub state_after : State
-  state_after = record { bases = world_of s.places ++ empty_base kind ∷ []; names = bound (named s.nodes names) name (base (length (world_of s.places))); handles = s.handles + 1 }
+  state_after = record { bases = s.world ++ empty_base kind ∷ []; names = bound (named s.nodes names) name (base (length s.world)); handles = s.handles + 1 }
 
   now_is : seen_as now (named now.nodes names') ≡ state_after
   now_is = λ i. record { bases = worlds i; names = names_now i; handles = (ap (λ (x : Stored). x.handles) h.grown) i }
@@ -152,7 +142,7 @@ module _ (s now : Stored) (names names' : List (List ℕ × ℕ)) (name : List �
   pub executed_new : (r : Result (Unit {0}) ExecFault) (t u : Option (List ℕ)) (f g : ℕ) → Said r t u f g (codes "ok" ++ 10 ∷ []) → Executed r state_before (seen_as now (named now.nodes names')) (made_new state_before name kind) t u f g
   executed_new r t u f g said = subst (λ (o : Outcome). Executed r state_before (seen_as now (named now.nodes names')) o t u f g) (sym roomy) (record {
     does = does_said r t u state_before (seen_as now (named now.nodes names')) state_after (codes "ok") said.memory now_is said.wrote;
-    changes = λ n c. subst (λ (w : World). ChangesUpTo (n + 1) w) (sym worlds) (calm_more n (world_of s.places) c);
+    changes = λ n c. subst (λ (w : World). ChangesUpTo (n + 1) w) (sym worlds) (calm_more n s.world c);
     later = said.later;
     cause = said.cause;
   })

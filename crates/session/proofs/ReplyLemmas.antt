@@ -4,9 +4,9 @@ use Rattle.std.proofs.lemmas.List.{append-nil}
 use Rattle.elem.specs.Outside.{Takes, Rose}
 use Rattle.session.specs.Replying.{Pending, Goes, Refuses, Sends, Said, nothing_pending, with_piece, flushed, sent_result}
 use Rattle.session.specs.declared.faults.ExecFault.{ExecFault}
-use Rattle.map_views.specs.declared.refusals.Refusal.{Refusal}
-use Rattle.map_views.specs.declared.refusals.Refusal.TheVariants as refusal
-use Rattle.map_views.specs.Refusals.{name_of}
+use Rattle.view_steps.specs.declared.refusals.Refusal.{Refusal}
+use Rattle.view_steps.specs.declared.refusals.Refusal.TheVariants as refusal
+use Rattle.view_steps.specs.Refusals.{name_of}
 
 pub takes_none : (t : Option (List ℕ)) → Takes t t []
 takes_none None = tt
@@ -26,11 +26,11 @@ goes_kept t f p piece = record { sent = []; takes = takes_none t; sends = by p.f
     by false = refl
 
 -- the same text in other words
-pub goes_text : {t u : Option (List ℕ)} {f g : ℕ} {p q : Pending} (x y : List ℕ) → x ≡ y → Goes t u f g p q x → Goes t u f g p q y
-goes_text {t} {u} {f} {g} {p} {q} x y e h = subst (λ (z : List ℕ). Goes t u f g p q z) e h
+pub goes_text : {t u : Option (List ℕ)} {f g : ℕ} {p q : Pending} {x y : List ℕ} → x ≡ y → Goes t u f g p q x → Goes t u f g p q y
+goes_text {t} {u} {f} {g} {p} {q} {x} {y} e h = subst (λ (z : List ℕ). Goes t u f g p q z) e h
 
-pub said_text : {r : Result (Unit {0}) ExecFault} {t u : Option (List ℕ)} {f g : ℕ} (x y : List ℕ) → x ≡ y → Said r t u f g x → Said r t u f g y
-said_text {r} {t} {u} {f} {g} x y e h = subst (λ (z : List ℕ). Said r t u f g z) e h
+pub said_text : {r : Result (Unit {0}) ExecFault} {t u : Option (List ℕ)} {f g : ℕ} {x y : List ℕ} → x ≡ y → Said r t u f g x → Said r t u f g y
+said_text {r} {t} {u} {f} {g} {x} {y} e h = subst (λ (z : List ℕ). Said r t u f g z) e h
 
 -- nothing at all
 pub goes_none : (t : Option (List ℕ)) (f : ℕ) (p : Pending) → Goes t t f f p p []
@@ -52,8 +52,8 @@ rose_before : (f g h : ℕ) → f ≤ g → Rose g h → Rose f h
 rose_before f g h l r = omega (arith, r)
 
 -- one text after another
-pub goes_more : (t u v : Option (List ℕ)) (f g h : ℕ) (p q r : Pending) (x y : List ℕ) → Goes t u f g p q x → Goes u v g h q r y → Goes t v f h p r (x ++ y)
-goes_more t u v f g h p q r x y a b = record {
+pub goes_more : {t u v : Option (List ℕ)} {f g h : ℕ} {p q r : Pending} {x y : List ℕ} → Goes t u f g p q x → Goes u v g h q r y → Goes t v f h p r (x ++ y)
+goes_more {t} {u} {v} {f} {g} {h} {p} {q} {r} {x} {y} a b = record {
   sent = a.sent ++ b.sent;
   takes = takes_more t u v a.sent b.sent a.takes b.takes;
   sends = sends_more p.failed q.failed r.failed a.sent b.sent x y p.bytes q.bytes r.bytes a.sends b.sends;
@@ -69,8 +69,8 @@ goes_more t u v f g h p q r x y a b = record {
 pub goes_flushed : (t u : Option (List ℕ)) (f g : ℕ) (p : Pending) (b : Bool) → Goes t u f g (flushed p.failed) (flushed b) p.bytes → Goes t u f g p (flushed b) []
 goes_flushed t u f g p b h = record { sent = h.sent; takes = h.takes; sends = subst (λ (xs : List ℕ). Sends p.failed b h.sent xs []) (sym (append-nil p.bytes)) h.sends; later = h.later; cause = h.cause }
 
-pub goes_sent : (t u : Option (List ℕ)) (f g : ℕ) (p : Pending) (b : Bool) (x : List ℕ) → p.bytes ≡ [] → Goes t u f g (flushed p.failed) (flushed b) x → Goes t u f g p (record { bytes = p.bytes; failed = b }) x
-goes_sent t u f g p b x e h = record {
+pub goes_sent : {t u : Option (List ℕ)} {f g : ℕ} (p : Pending) (b : Bool) (x : List ℕ) → p.bytes ≡ [] → Goes t u f g (flushed p.failed) (flushed b) x → Goes t u f g p (record { bytes = p.bytes; failed = b }) x
+goes_sent p b x e h = record {
   sent = h.sent;
   takes = h.takes;
   sends = subst (λ (xs : List ℕ). Sends p.failed b h.sent (xs ++ x) xs) (sym e) h.sends;
@@ -79,8 +79,8 @@ goes_sent t u f g p b x e h = record {
 }
 
 -- a text that was all said
-pub said_of : (t u : Option (List ℕ)) (f g : ℕ) (p : Pending) (x : List ℕ) (r : Result (Unit {0}) ExecFault) → Goes t u f g nothing_pending p x → p.bytes ≡ [] → r ≡ sent_result p.failed → Said r t u f g x
-said_of t u f g p x r h e is = subst (λ (s : Result (Unit {0}) ExecFault). Said s t u f g x) (sym is) (by p.failed refl h.sends)
+pub said_of : {t u : Option (List ℕ)} {f g : ℕ} {p : Pending} {x : List ℕ} {r : Result (Unit {0}) ExecFault} → Goes t u f g nothing_pending p x → p.bytes ≡ [] → r ≡ sent_result p.failed → Said r t u f g x
+said_of {t} {u} {f} {g} {p} {x} {r} h e is = subst (λ (s : Result (Unit {0}) ExecFault). Said s t u f g x) (sym is) (by p.failed refl h.sends)
   where
     by : (b : Bool) → p.failed ≡ b → Sends false b h.sent ([] ++ x) p.bytes → Said (sent_result b) t u f g x
     by true broken front = record { wrote = (h.sent, front, h.takes); memory = λ q. cc; later = h.later; cause = λ q. h.cause refl broken }

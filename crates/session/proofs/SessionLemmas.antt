@@ -1,37 +1,44 @@
 -- The outcomes of lines, as the plain machine has them.
-use Rattle.std.proofs.Common.{◌≡◌, ◌⊎◌, ℕ, false, List, [], ◌∷◌, ◌++◌, length, inl, inr, map, Option, None, Some, Result, Ok, Err, refl, sym, ◌∙◌, ap, subst, arith}
+use Rattle.std.proofs.Common.{◌≡◌, ◌⊎◌, ◌≤◌, ℕ, Bool, true, false, cond, nat_lt, List, [], ◌∷◌, ◌++◌, length, inl, inr, map, Option, None, Some, Result, Ok, Err, refl, sym, ◌∙◌, ap, subst, arith}
 use Rattle.std.specs.Prelude.{codes}
 use Rattle.std.specs.Map.{lookup}
-use Rattle.std.specs.Option.{is_some, option_map}
-use Rattle.map_views.specs.Kinds.{kind_named}
-use Rattle.map_views.specs.Views.{View, shape_at}
+use Rattle.std.specs.Option.{option_map}
+use Rattle.std.proofs.lemmas.Bool.Decides.{nat_tests}
+use Rattle.view_steps.specs.Kinds.{kind_named}
+use Rattle.view_steps.specs.Views.{View}
 use Rattle.base_store.specs.declared.store.Made.{Made}
 use Rattle.base_store.specs.Nodes.{view_at}
-use Rattle.base_store.specs.Stored.{Stored, view_in, world_of}
+use Rattle.base_store.specs.Stored.{Stored}
 use Rattle.script_text.specs.declared.kinds.KindName.{KindName}
 use Rattle.script_text.specs.declared.lines.Line.TheVariants as form
 use Rattle.script_text.specs.declared.lines.Part.{Part as Placed}
 use Rattle.script_text.specs.declared.lines.Slice.{Slice}
+use Rattle.script_text.specs.Lines.{placed_line}
 use Rattle.script_text.specs.Names.{kind_text}
 use Rattle.script_text.specs.Trees.{Call, Expression, Tree, expr_view, in_pieces, line_view, map_expression, map_tree, part_of}
 use Rattle.script_text.specs.Trees as tree
 use Rattle.session.specs.declared.faults.ExecFault.{ExecFault}
+use Rattle.session.specs.declared.typing.Fault.{Fault}
 use Rattle.session.specs.declared.faults.ExecFault.TheVariants.{NoMemory}
-use Rattle.session.specs.Environment.{Came, named, seen_as}
+use Rattle.session.specs.Coming.{Came, seen_as}
+use Rattle.session.specs.Environment.{named}
 use Rattle.session.specs.Executing.{Executed}
-use Rattle.session.specs.Machine.{Outcome, says, eval_on, eval_of, let_concluded, let_of, made_new, new_of, reach, refused, step_of}
+use Rattle.session.specs.Following.{target_in}
+use Rattle.session.specs.Machine.{concluded, eval_of, let_concluded, let_of, made_new, new_of, step_of}
+use Rattle.session.specs.Outcomes.{Outcome, says, refused}
 use Rattle.session.specs.Parts.{Part, parts_in}
 use Rattle.session.specs.Replying.{Refuses, Said}
 use Rattle.session.specs.declared.typing.Purpose.TheVariants as purpose
-use Rattle.session.specs.Typing.{Typing, typed_words}
+use Rattle.session.specs.Typing.{fault_text}
 use Rattle.base_store.specs.Limits.{most_handles}
-use Rattle.map_views.specs.declared.kinds.Kind.{Kind}
-use Rattle.map_views.specs.declared.refusals.Refusal.{Refusal}
-use Rattle.map_views.specs.Refusals.{name_of}
-use Rattle.map_views.specs.declared.refusals.Refusal.TheVariants as refusal
-use Rattle.session.specs.State.{State, ChangesUpTo, view_named}
-use Rattle.session.proofs.CallLemmas.{calm_on, stays}
+use Rattle.view_steps.specs.declared.kinds.Kind.{Kind}
+use Rattle.view_steps.specs.declared.refusals.Refusal.{Refusal}
+use Rattle.view_steps.specs.Refusals.{name_of}
+use Rattle.view_steps.specs.declared.refusals.Refusal.TheVariants as refusal
+use Rattle.session.specs.State.{State, view_named}
+use Rattle.view_steps.specs.Limits.{ChangesUpTo}
 use Rattle.session.proofs.NameLemmas.{executed_said, named_view, same_text, without_room}
+use Rattle.session.proofs.CallLemmas.{calm_on, stays}
 use Rattle.session.proofs.ReplyLemmas.{takes_none}
 use Rattle.session.proofs.TextLemmas.{eval_alike, let_alike}
 
@@ -118,6 +125,26 @@ module _ (state : State) (line : List ℕ) where
       ap (λ (h : List ℕ). eval_of state (view_named state.names h) (parts_in line parts)) heads
       ∙ ap (λ (ps : List Placed). eval_of state (view_named state.names x.head) (parts_in line ps)) calls ∙ eval_alike state line (view_named state.names x.head) x.calls
 
+-- ---- how long a line is
+
+long_when : (b : Bool) (rest : Tree (Call Slice)) → b ≡ true → map_tree part_of (cond b tree.Long rest) ≡ tree.Long
+long_when b rest e = ap (λ (x : Bool). map_tree part_of (cond x tree.Long rest)) e
+
+-- a line that is not too long has at most 1,024 bytes
+short_line : (line : List ℕ) (t : Tree Placed) → (t ≡ tree.Long → ⊥) → t ≡ map_tree part_of (placed_line line) → length line ≤ 1024
+unfolding placed_line
+short_line line t short e = by (nat_lt 1024 (length line)) refl
+  where
+    by : (b : Bool) → nat_lt 1024 (length line) ≡ b → length line ≤ 1024
+    by true is = absurd (short (e ∙ long_when _ _ is))
+    by false is = grind (arith, nat_tests)
+
+pub short_let : (name head line : List ℕ) (parts : List Placed) → line_view (form.Let name head) parts ≡ map_tree part_of (placed_line line) → length line ≤ 1024
+short_let name head line parts e = short_line line (tree.Let name (expr_view head parts)) (λ q. cc) e
+
+pub short_eval : (head line : List ℕ) (parts : List Placed) → line_view (form.Eval head) parts ≡ map_tree part_of (placed_line line) → length line ≤ 1024
+short_eval head line parts e = short_line line (tree.Eval (expr_view head parts)) (λ q. cc) e
+
 -- ---- executions
 
 module _ {r : Result (Unit {0}) ExecFault} {t u : Option (List ℕ)} {f g : ℕ} where
@@ -154,33 +181,28 @@ executed_silent {q} {t} {u} {f} {g} s now names names' outcome same unnamed said
 pub name_unknown : (nodes : List Made) (names : List (List ℕ × ℕ)) (name : List ℕ) → lookup (same_text name) names ≡ None → view_named (named nodes names) name ≡ None
 name_unknown nodes names name e = named_view nodes names name ∙ ap (option_map (view_at nodes)) e
 
-pub executed_eval : {r : Result (Unit {0}) ExecFault} {t u : Option (List ℕ)} {f g : ℕ} (s now : Stored) (names : List (List ℕ × ℕ)) (name : List ℕ) (head : ℕ) (parts : List Part) → lookup (same_text name) names ≡ Some head → Came r s now (λ state. eval_on state (view_in s head) parts) t u f g
+pub executed_eval : {r : Result (Unit {0}) ExecFault} {t u : Option (List ℕ)} {f g : ℕ} (s now : Stored) (names : List (List ℕ × ℕ)) (name : List ℕ) (head : ℕ) (parts : List Part) → lookup (same_text name) names ≡ Some head
+    → Came r s now (λ state. concluded state (target_in s names purpose.Reply head parts)) t u f g
     → Executed r (seen_as s (named s.nodes names)) (seen_as now (named now.nodes names)) (eval_of (seen_as s (named s.nodes names)) (view_named (named s.nodes names) name) parts) t u f g
 executed_eval {r} {t} {u} {f} {g} s now names name head parts found h =
     subst (λ (o : Outcome). Executed r (seen_as s (named s.nodes names)) (seen_as now (named now.nodes names)) o t u f g) outcome
-    (subst (λ (ns : List Made). Executed r (seen_as s (named s.nodes names)) (seen_as now (named ns names)) (eval_on (seen_as s (named s.nodes names)) (view_in s head) parts) t u f g) (sym h.nodes) (h.executed (named s.nodes names)))
+    (subst (λ (ns : List Made). Executed r (seen_as s (named s.nodes names)) (seen_as now (named ns names)) (concluded (seen_as s (named s.nodes names)) (target_in s names purpose.Reply head parts)) t u f g) (sym h.nodes) (h.executed (named s.nodes names)))
   where
-    outcome : eval_on (seen_as s (named s.nodes names)) (view_in s head) parts ≡ eval_of (seen_as s (named s.nodes names)) (view_named (named s.nodes names) name) parts
+    outcome : concluded (seen_as s (named s.nodes names)) (target_in s names purpose.Reply head parts) ≡ eval_of (seen_as s (named s.nodes names)) (view_named (named s.nodes names) name) parts
     outcome = ap (λ (o : Option View). eval_of (seen_as s (named s.nodes names)) o parts) (sym (named_view s.nodes names name ∙ ap (option_map (view_at s.nodes)) found))
 
--- words without a meaning behind a name
-pub executed_untyped : {q : Result (Unit {0}) ExecFault} {t u : Option (List ℕ)} {f g : ℕ} (s : Stored) (names : List (List ℕ × ℕ)) (name headname : List ℕ) (head : ℕ) (parts : List Part) → lookup (same_text headname) names ≡ Some head
-    → is_some (typed_words purpose.Name (shape_at (world_of s.places) (view_in s head)) parts) ≡ false → Said q t u f g (codes "?call" ++ 10 ∷ [])
+-- words with a fault behind a name
+pub executed_fault : {q : Result (Unit {0}) ExecFault} {t u : Option (List ℕ)} {f g : ℕ} (s : Stored) (names : List (List ℕ × ℕ)) (name headname : List ℕ) (head : ℕ) (parts : List Part) (fault : Fault) → lookup (same_text headname) names ≡ Some head
+    → target_in s names purpose.Name head parts ≡ Err fault → Said q t u f g (fault_text fault ++ 10 ∷ [])
     → Executed q (seen_as s (named s.nodes names)) (seen_as s (named s.nodes names)) (let_of (seen_as s (named s.nodes names)) name (view_named (named s.nodes names) headname) parts) t u f g
-executed_untyped {q} {t} {u} {f} {g} s names name headname head parts found untyped said =
-    subst (λ (o : Outcome). Executed q before before o t u f g) outcome (executed_said q before t u f g (codes "?call") said)
+executed_fault {q} {t} {u} {f} {g} s names name headname head parts fault found faulty said =
+    subst (λ (o : Outcome). Executed q before before o t u f g) outcome (executed_said q before t u f g (fault_text fault) said)
   where
     before : State
     before = seen_as s (named s.nodes names)
 
-    none_of : (o : Option Typing) → is_some o ≡ false → o ≡ None
-    none_of None e = refl
-    none_of (Some x) e = cc
-
-    outcome : says before (codes "?call") ≡ let_of before name (view_named (named s.nodes names) headname) parts
-    outcome =
-        sym (ap (λ (words : Option Typing). let_concluded before name (length parts) (reach before.bases (view_in s head) words)) (none_of _ untyped))
-        ∙ ap (λ (v : Option View). let_of before name v parts) (sym (named_view s.nodes names headname ∙ ap (option_map (view_at s.nodes)) found))
+    outcome : says before (fault_text fault) ≡ let_of before name (view_named (named s.nodes names) headname) parts
+    outcome = sym (ap (let_concluded before name (length parts)) faulty) ∙ ap (λ (v : Option View). let_of before name v parts) (sym (named_view s.nodes names headname ∙ ap (option_map (view_at s.nodes)) found))
 
 -- a new base for which there is no handle, or no memory
 pub executed_full : {q : Result (Unit {0}) ExecFault} {t u : Option (List ℕ)} {f g : ℕ} (s now : Stored) (names names' : List (List ℕ × ℕ)) (name : List ℕ) (kind : Kind) (why : Refusal) → now ≡ s → names' ≡ names

@@ -1,11 +1,37 @@
--- Steps before a typing leave whether there is one.
-use Rattle.std.proofs.Common.{◌≡◌, refl, Option, Some, None}
-use Rattle.std.specs.Option.{is_some}
-use Rattle.map_views.specs.declared.steps.Step.{Step}
-use Rattle.session.specs.Typing.{Typing, before}
+-- A call with the view of a name.
+use Rattle.std.proofs.Common.{◌≡◌, ℕ, Bool, List, Option, None, Some, Result, Ok, Err, cond, refl, sym, ◌∙◌, ap}
+use Rattle.std.specs.Map.{lookup}
+use Rattle.std.specs.Option.{option_map}
+use Rattle.std.specs.Result.{result_err}
+use Rattle.base_store.specs.declared.store.Made.{Made}
+use Rattle.base_store.specs.Nodes.{view_at}
+use Rattle.view_steps.specs.declared.calls.OnOther.{OnOther}
+use Rattle.view_steps.specs.declared.refusals.Refusal.{Refusal}
+use Rattle.view_steps.specs.declared.shapes.Shape.{Shape}
+use Rattle.view_steps.specs.declared.steps.Step.{Step}
+use Rattle.view_steps.specs.Calls.{fits_with}
+use Rattle.view_steps.specs.Views.{World, shape_at}
+use Rattle.session.specs.declared.typing.Fault.{Fault}
+use Rattle.session.specs.declared.typing.Fault.TheVariants as fault
+use Rattle.session.specs.Environment.{named}
+use Rattle.session.specs.Typing.{Typing, before, ends, calls_with, with_name, with_view}
+use Rattle.session.proofs.NameLemmas.{named_view, same_text}
 
-pub is_some-before : (it : Step) (t : Option Typing) → is_some (before it t) ≡ is_some t
-is_some-before it None = refl
-is_some-before it (Some t) = refl
+module _ (world : World) (nodes : List Made) (names : List (List ℕ × ℕ)) (on : Shape) (word : OnOther) (name : List ℕ) (text : Option (List ℕ)) (is : Some name ≡ text) where
+  by_name : (found : Option ℕ) → lookup (same_text name) names ≡ found → with_view world on word (option_map (view_at nodes) found) ≡ with_name world (named nodes names) on word text
+  by_name found e = ap (with_view world on word) (sym (named_view nodes names name ∙ ap (option_map (view_at nodes)) e)) ∙ ap (with_name world (named nodes names) on word) is
 
-pub ruleset typing = is_some-before
+  pub name_unbound : lookup (same_text name) names ≡ None → Err fault.Name ≡ with_name world (named nodes names) on word text
+  name_unbound e = by_name None e
+
+  pub name_bound : (n : ℕ) (b : Bool) (shape : Shape) → lookup (same_text name) names ≡ Some n → b ≡ fits_with on word shape → shape ≡ shape_at world (view_at nodes n)
+      → cond b (Ok (ends (calls_with word (view_at nodes n)))) (Err fault.Call) ≡ with_name world (named nodes names) on word text
+  name_bound n b shape e fits of =
+      ap (λ (x : Bool). cond x (Ok (ends (calls_with word (view_at nodes n)))) (Err fault.Call)) (fits ∙ ap (fits_with on word) of) ∙ by_name (Some n) e
+
+-- a step before the rest leaves the fault of the rest
+pub err_before : (it : Result Step Refusal) (t : Result Typing Fault) → result_err (before it t) ≡ result_err t
+err_before it (Err why) = refl
+err_before it (Ok t) = refl
+
+pub ruleset typing = err_before

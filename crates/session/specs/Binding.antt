@@ -8,8 +8,8 @@ use Rattle.session.specs.declared.faults.ExecFault.{ExecFault}
 use Rattle.session.specs.declared.following.End.{End}
 use Rattle.session.specs.Following.{node_of}
 use Rattle.session.specs.Replying.{Refuses, Said}
-use Rattle.map_views.specs.declared.refusals.Refusal.{Refusal}
-use Rattle.map_views.specs.declared.refusals.Refusal.TheVariants.{Limit, NoMemory}
+use Rattle.view_steps.specs.declared.refusals.Refusal.{Refusal}
+use Rattle.view_steps.specs.declared.refusals.Refusal.TheVariants.{Limit, NoMemory}
 
 -- so many handles would pass their limit, or memory ran out
 abbrev pub IsFull : Stored → ℕ → Refusal → Type 0

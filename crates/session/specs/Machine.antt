@@ -1,107 +1,81 @@
 -- One line: its reply, and the state after it.
-use Rattle.std.specs.Prelude.{ℕ, ◌+◌, max, not, nat_lt, List, [], ◌∷◌, ◌++◌, length, Option, None, Some, Result, Ok, Err, codes, if◌then◌else◌}
-use Rattle.map_views.specs.declared.calls.Call.{Call}
-use Rattle.map_views.specs.declared.kinds.Kind.{Kind}
-use Rattle.map_views.specs.declared.refusals.Refusal.{Refusal}
-use Rattle.map_views.specs.declared.refusals.Refusal.TheVariants.{Limit, UnsupportedOperation}
-use Rattle.map_views.specs.declared.steps.Step.{Step}
-use Rattle.map_views.specs.Calls.{fits, needs_of}
-use Rattle.map_views.specs.Kinds.{kind_named}
-use Rattle.map_views.specs.Refusals.{name_of}
-use Rattle.map_views.specs.Steps.{lacks}
-use Rattle.map_views.specs.Texts.{view_text}
-use Rattle.map_views.specs.Views.{World, View, base, over, path, candidates, shown, shape_at, flags_at, empty_base}
-use Rattle.base_store.specs.Edits.{Edit}
-use Rattle.base_store.specs.Limits.{rows_in, most_rows, most_handles}
+use Rattle.std.specs.Prelude.{ℕ, ◌+◌, max, nat_lt, List, [], ◌∷◌, ◌++◌, length, Option, None, Some, Result, Ok, Err, codes, if◌then◌else◌}
+use Rattle.view_steps.specs.declared.kinds.Kind.{Kind}
+use Rattle.view_steps.specs.declared.refusals.Refusal.{Refusal}
+use Rattle.view_steps.specs.declared.refusals.Refusal.TheVariants.{Limit}
+use Rattle.view_steps.specs.declared.steps.Step.{Step}
+use Rattle.view_steps.specs.Answering.{unless_refused}
+use Rattle.view_steps.specs.KeptSteps.{kept, step_refusal}
+use Rattle.view_steps.specs.Kinds.{kind_named}
+use Rattle.view_steps.specs.Texts.{view_text}
+use Rattle.view_steps.specs.Views.{World, View, base, over, shown, shape_at, empty_base}
+use Rattle.base_store.specs.Limits.{most_handles}
 use Rattle.script_text.specs.Lines.{line_of}
 use Rattle.script_text.specs.Trees.{Tree}
 use Rattle.script_text.specs.Trees as line
+use Rattle.session.specs.declared.typing.Fault.{Fault}
+use Rattle.session.specs.declared.typing.Purpose.{Purpose}
 use Rattle.session.specs.declared.typing.Purpose.TheVariants as purpose
-use Rattle.session.specs.Calls.{reply_of, edit_of}
+use Rattle.session.specs.Called.{called, called_with}
+use Rattle.session.specs.Outcomes.{Outcome, says, refused}
 use Rattle.session.specs.Parts.{Part}
-use Rattle.session.specs.State.{State, view_named, bound, written_to}
-use Rattle.session.specs.Typing.{Ending, Typing, shows, calls, typed_words}
+use Rattle.session.specs.State.{State, view_named, bound}
+use Rattle.session.specs.Typing.{Ending, Typing, shows, calls, calls_with, fault_text, typed_words}
 
--- a reply, where there is one, and the state afterwards
-pub record Outcome : Type 0 where
-  pub reply : Option (List ℕ)
-  pub after : State
+-- ---- the steps
 
--- a reply that changes nothing
-abbrev pub says : State → List ℕ → Outcome
-says state text = record { reply = Some text; after = state }
+-- the view of a step over a view, or the refusal of its argument or of the step
+abbrev pub step_over : World → View → Result Step Refusal → Result View Refusal
+step_over world view (Err why) = Err why
+step_over world view (Ok step) = unless_refused (step_refusal world view step) (Ok (over (kept world view step) view))
 
-abbrev pub refused : State → Refusal → Outcome
-refused state refusal = says state (name_of refusal)
-
--- the longest path of steps
-abbrev pub most_steps : ℕ
-most_steps = 32
-
--- the refusal of a step over a view
-abbrev pub step_refusal : World → View → Step → Option Refusal
-step_refusal world view step = if nat_lt (path view) most_steps then None else Some Limit
-
-abbrev pub unless : Option Refusal → Result View Refusal → Result View Refusal
-unless None made = made
-unless (Some refusal) made = Err refusal
+abbrev pub and_then : (View → Result View Refusal) → Result View Refusal → Result View Refusal
+and_then rest (Err why) = Err why
+and_then rest (Ok view) = rest view
 
 -- the view that the steps lead to, or the first refusal
-abbrev pub made : World → View → List Step → Result View Refusal
+abbrev pub made : World → View → List (Result Step Refusal) → Result View Refusal
 made world view [] = Ok view
-made world view (step ∷ steps) = unless (step_refusal world view step) (made world (over step view) steps)
-
-abbrev pub after_edit : State → View → Option Edit → State
-after_edit state view None = state
-after_edit state view (Some edit) = written_to state view edit
-
--- an outcome with no more rows than a session may hold
-abbrev pub within_rows : State → Outcome → Outcome
-within_rows state outcome = if nat_lt most_rows (rows_in outcome.after.bases) then refused state Limit else outcome
-
--- an outcome that takes so many handles
-abbrev pub within_handles : State → ℕ → Outcome → Outcome
-within_handles state n outcome = if nat_lt most_handles (state.handles + n) then refused state Limit else outcome
-
--- a call that is not refused replies by what is shown and changes the base
-abbrev pub answered : State → View → Call → Outcome
-answered state view call = record { reply = Some (reply_of call (shown state.bases view)); after = after_edit state view (edit_of call (candidates state.bases view)) }
-
-abbrev pub carried_out : State → View → Call → Outcome
-carried_out state view call = within_rows state (answered state view call)
-
--- a call on a view, refused where it asks for what the view does not allow
-abbrev pub called : State → View → Call → Outcome
-called state view call =
-    if not (fits (shape_at state.bases view) call) then says state (codes "?call")
-    else if lacks (flags_at state.bases view) (needs_of call) then refused state UnsupportedOperation
-    else carried_out state view call
-
-abbrev pub ended : State → View → Ending → Outcome
-ended state view shows = says state (view_text (shape_at state.bases view) (shown state.bases view))
-ended state view (calls call) = called state view call
+made world view (step ∷ steps) = and_then (λ next. made world next steps) (step_over world view step)
 
 -- the view that the steps of a typing lead to and what stands at their end, or the first refusal
 abbrev pub with_ending : Ending → Result View Refusal → Result (View × Ending) Refusal
 with_ending ending (Ok view) = Ok (view, ending)
 with_ending ending (Err refusal) = Err refusal
 
-abbrev pub reach : World → View → Option Typing → Option (Result (View × Ending) Refusal)
-reach world view None = None
-reach world view (Some t) = Some (with_ending t.ending (made world view t.steps))
+abbrev pub reach : World → View → Result Typing Fault → Result (Result (View × Ending) Refusal) Fault
+reach world view (Err why) = Err why
+reach world view (Ok t) = Ok (with_ending t.ending (made world view t.steps))
 
-abbrev pub concluded : State → Option (Result (View × Ending) Refusal) → Outcome
-concluded state None = says state (codes "?call")
-concluded state (Some (Err refusal)) = refused state refusal
-concluded state (Some (Ok end)) = ended state end.0 end.1
+-- what the words behind a name that stands for a view lead to, or their fault
+abbrev pub target : World → List (List ℕ × View) → Purpose → View → List Part → Result (Result (View × Ending) Refusal) Fault
+target world names purpose view parts = reach world view (typed_words world names purpose (shape_at world view) parts)
+
+-- ---- an expression
+
+abbrev pub ended : State → View → Ending → Outcome
+ended state view shows = says state (view_text (shape_at state.bases view) (shown state.bases view))
+ended state view (calls call) = called state view call
+ended state view (calls_with word other) = called_with state view word other
+
+abbrev pub concluded : State → Result (Result (View × Ending) Refusal) Fault → Outcome
+concluded state (Err fault) = says state (fault_text fault)
+concluded state (Ok (Err refusal)) = refused state refusal
+concluded state (Ok (Ok end)) = ended state end.0 end.1
 
 -- the words behind a name that stands for a view
 abbrev pub eval_on : State → View → List Part → Outcome
-eval_on state view parts = concluded state (reach state.bases view (typed_words purpose.Reply (shape_at state.bases view) parts))
+eval_on state view parts = concluded state (target state.bases state.names purpose.Reply view parts)
 
 abbrev pub eval_of : State → Option View → List Part → Outcome
 eval_of state None parts = says state (codes "?name")
 eval_of state (Some view) parts = eval_on state view parts
+
+-- ---- a name for a view, and a new base
+
+-- an outcome that takes so many handles
+abbrev pub within_handles : State → ℕ → Outcome → Outcome
+within_handles state n outcome = if nat_lt most_handles (state.handles + n) then refused state Limit else outcome
 
 -- a view gets a name, for as many handles as there are steps and at least one
 abbrev pub made_name : State → List ℕ → ℕ → View → Outcome
@@ -110,14 +84,14 @@ made_name state name steps view = within_handles state (max 1 steps) (record {
   after = record { bases = state.bases; names = bound state.names name view; handles = state.handles + max 1 steps };
 })
 
-abbrev pub let_concluded : State → List ℕ → ℕ → Option (Result (View × Ending) Refusal) → Outcome
-let_concluded state name steps None = says state (codes "?call")
-let_concluded state name steps (Some (Err refusal)) = refused state refusal
-let_concluded state name steps (Some (Ok end)) = made_name state name steps end.0
+abbrev pub let_concluded : State → List ℕ → ℕ → Result (Result (View × Ending) Refusal) Fault → Outcome
+let_concluded state name steps (Err fault) = says state (fault_text fault)
+let_concluded state name steps (Ok (Err refusal)) = refused state refusal
+let_concluded state name steps (Ok (Ok end)) = made_name state name steps end.0
 
 -- the words behind a name lead to a view, all of them by steps
 abbrev pub let_on : State → List ℕ → View → List Part → Outcome
-let_on state name view parts = let_concluded state name (length parts) (reach state.bases view (typed_words purpose.Name (shape_at state.bases view) parts))
+let_on state name view parts = let_concluded state name (length parts) (target state.bases state.names purpose.Name view parts)
 
 abbrev pub let_of : State → List ℕ → Option View → List Part → Outcome
 let_of state name None parts = says state (codes "?name")
@@ -134,6 +108,8 @@ abbrev pub new_of : State → List ℕ → Option Kind → Outcome
 new_of state name None = says state (codes "?call")
 new_of state name (Some kind) = made_new state name kind
 
+-- ---- a line
+
 -- the step of a line's tree; no view gives iterators yet
 abbrev pub step_of : State → Tree Part → Outcome
 step_of state line.Blank = record { reply = None; after = state }
@@ -147,8 +123,3 @@ step_of state (line.Eval e) = eval_of state (view_named state.names e.head) e.ca
 -- the step of a line's bytes
 abbrev pub step : State → List ℕ → Outcome
 step state text = step_of state (line_of text)
-
--- a reply and a newline, or nothing
-abbrev pub written : Option (List ℕ) → List ℕ
-written None = []
-written (Some text) = text ++ 10 ∷ []

@@ -3,9 +3,11 @@ use Rattle.std.specs.Prelude.{◌≡◌, ◌≢◌, ℕ, ◌≤◌, Bool, true, 
 use Rattle.elem.specs.Outside.{Takes, TakesFront, Stays, IsFront, Rose}
 use Rattle.session.specs.declared.faults.ExecFault.{ExecFault}
 use Rattle.session.specs.declared.faults.ExecFault.TheVariants.{WriteFault, NoMemory}
-use Rattle.map_views.specs.declared.refusals.Refusal.{Refusal}
-use Rattle.map_views.specs.declared.refusals.Refusal.TheVariants as refusal
-use Rattle.map_views.specs.Refusals.{name_of}
+use Rattle.view_steps.specs.declared.answers.Answer.{Answer}
+use Rattle.view_steps.specs.declared.refusals.Refusal.{Refusal}
+use Rattle.view_steps.specs.declared.refusals.Refusal.TheVariants as refusal
+use Rattle.view_steps.specs.Answers.{answer_text}
+use Rattle.view_steps.specs.Refusals.{name_of}
 
 pub record Pending : Type 0 where
   pub bytes : List ℕ
@@ -59,3 +61,8 @@ sent_result false = Ok tt
 abbrev pub Refuses : {T : Type 0} → Refusal → Result T ExecFault → Option (List ℕ) → Option (List ℕ) → ℕ → ℕ → Type 0
 Refuses refusal.NoMemory result told told' faults faults' = (result ≡ Err NoMemory) × (told' ≡ told) × (faults' ≡ faults)
 Refuses why result told told' faults faults' = Said result told told' faults faults' (name_of why ++ 10 ∷ [])
+
+-- An answer was said, or why there is none.
+abbrev pub Tells : {T : Type 0} → Result Answer Refusal → Result T ExecFault → Option (List ℕ) → Option (List ℕ) → ℕ → ℕ → Type 0
+Tells (Ok answer) result told told' faults faults' = Said result told told' faults faults' (answer_text answer ++ 10 ∷ [])
+Tells (Err why) result told told' faults faults' = Refuses why result told told' faults faults'

@@ -1,9 +1,8 @@
 -- The state of the plain machine: the bases, the names with the views that they stand for, and the number of handles.
-use Rattle.std.specs.Prelude.{ℕ, ◌≤◌, List, [], ◌∷◌, Option, nat_eq, slice_set, if◌then◌else◌}
+use Rattle.std.specs.Prelude.{ℕ, List, [], ◌∷◌, Option, nat_eq, if◌then◌else◌}
 use Rattle.std.specs.Cmp.Lexicographic.{pointwise}
 use Rattle.std.specs.Map.{lookup}
-use Rattle.map_views.specs.Views.{World, View, base_at, base_under}
-use Rattle.base_store.specs.Edits.{Edit, edited}
+use Rattle.view_steps.specs.Views.{World, View}
 
 pub record State : Type 0 where
   pub bases : World
@@ -25,15 +24,6 @@ abbrev pub bound : List (List ℕ × View) → List ℕ → View → List (List 
 bound [] name view = (name, view) ∷ []
 bound (known ∷ names) name view = if pointwise nat_eq name known.0 then (known.0, view) ∷ names else known ∷ bound names name view
 
--- the bases after an edit of base b
-abbrev pub world_after : World → ℕ → Edit → World
-world_after world b edit = slice_set world b (edited (base_at world b) edit)
-
--- the state after an edit of the base under a view
-abbrev pub written_to : State → View → Edit → State
-written_to state view edit = record { bases = world_after state.bases (base_under view) edit; names = state.names; handles = state.handles }
-
--- no change number is above n
-abbrev pub ChangesUpTo : ℕ → World → Type 0
-ChangesUpTo n [] = Unit {0}
-ChangesUpTo n (it ∷ bases) = (it.change ≤ n) × ChangesUpTo n bases
+-- the state with other bases
+abbrev pub with_bases : State → World → State
+with_bases state world = record { bases = world; names = state.names; handles = state.handles }

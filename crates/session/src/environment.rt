@@ -1,26 +1,27 @@
 //! The bases of a session, and the names of views of them.
-ghost use Rattle.std.specs.Prelude.{◌≡◌, ◌^◌, IfErr, OnErr, OnOk};
+ghost use Rattle.std.specs.Prelude.{◌≡◌, ◌≤◌, ◌^◌, length, IfErr, OnErr, OnOk};
 ghost use Rattle.script_text.specs.Names.{kind_text};
 ghost use Rattle.session.specs.Binding.{Answers, IsFull, KeptNode, Keeps};
 ghost use Rattle.session.specs.Parts.{parts_in};
 ghost use Rattle.session.specs.Executing.{Executed};
 ghost use Rattle.session.specs.Machine.{eval_of, let_of, new_of};
-ghost use Rattle.session.specs.State.{ChangesUpTo, empty, view_named};
-ghost use Rattle.map_views.specs.Kinds as kinds;
+ghost use Rattle.session.specs.State.{empty, view_named};
+ghost use Rattle.view_steps.specs.Kinds as kinds;
+ghost use Rattle.view_steps.specs.Limits.{ChangesUpTo};
 
-use crate::evaluating::evaluate;
+use crate::evaluating::{evaluate, say_fault};
 use crate::faults::ExecFault;
 use crate::following::{End, follow};
 use crate::replies::{Reply, refuse, say};
-use crate::typing::{Purpose, is_typed};
+use crate::typing::{Purpose, typing_fault};
 use base_store::{AnyRef, Store};
 use elem::{Sink, Steps, Word};
 use indexmap::IndexMap;
-use map_views::{Refusal, kind_named};
 use script_text::{KindName, Part};
 use std::alloc::Global;
 use std::marker::Model;
 use std::sync::ledger::Ledger;
+use view_steps::{Refusal, kind_named};
 
 /// Bases, and names that stand for views of them.
 #[derive(Drop)]
@@ -32,13 +33,14 @@ pub struct Environment {
 impl Model for Environment {
     ghost use Rattle.session.specs.State.{State};
     ghost use Rattle.std.specs.Coded.{codes};
-    ghost use Rattle.map_views.specs.ViewCode.{view_code};
+    ghost use Rattle.view_steps.specs.ViewCode.{view_code};
 
     ghost Value = { State };
 
     ghost coded = { Prim.hlevel (codes, view_code) };
 
-    ghost use Rattle.session.specs.Environment.{IsSettled, named, seen_as};
+    ghost use Rattle.session.specs.Coming.{seen_as};
+    ghost use Rattle.session.specs.Environment.{IsSettled, named};
 
     ghost view = { λ e. seen_as e.store (named e.store.nodes e.names.entries) };
 
@@ -91,16 +93,26 @@ impl Environment {
         reply: &mut Reply,
         out: &mut S,
     ) -> Result<(), ExecFault>
+        requires { length line.now ≤ 1024 }
         ensures { Executed result self.old self.new (let_of self.old name (view_named self.old.names head) (parts_in line.now parts.now)) (S.taken out.old) (S.taken out.new) (S.faults out.old) (S.faults out.new) }
     {
         let Some(head) = self.names.get(&head) else {
             return say(reply, out, b"?name");
         };
         let head = *head;
-        if !is_typed(Purpose::Name, self.store.shape(head), line, parts) {
-            return say(reply, out, b"?call");
+        let shape = self.store.shape(head);
+        let fault = typing_fault(&self.store, &self.names, Purpose::Name, shape, line, parts);
+        if let Some(fault) = fault {
+            return say_fault(reply, out, fault);
         }
-        let end = follow(&mut self.store, head, Purpose::Name, line, parts);
+        let end = follow(
+            &mut self.store,
+            &self.names,
+            head,
+            Purpose::Name,
+            line,
+            parts,
+        );
         let kept = keep_end(&mut self.store, &mut self.names, name, &end, parts.len());
         tell_kept(kept, reply, out)
     }
@@ -115,14 +127,24 @@ impl Environment {
         out: &mut S,
         steps: &mut Steps<L>,
     ) -> Result<(), ExecFault>
-        requires { ChangesUpTo (2 ^ 62) self.old.bases }
+        requires short { length line.now ≤ 1024 }
+        requires change { ChangesUpTo (2 ^ 62) self.old.bases }
         ensures { Executed result self.old self.new (eval_of self.old (view_named self.old.names head) (parts_in line.now parts.now)) (S.taken out.old) (S.taken out.new) (S.faults out.old) (S.faults out.new) }
     {
         let Some(head) = self.names.get(&head) else {
             return say(reply, out, b"?name");
         };
         let head = *head;
-        evaluate(&mut self.store, head, line, parts, reply, out, steps)
+        evaluate(
+            &mut self.store,
+            &self.names,
+            head,
+            line,
+            parts,
+            reply,
+            out,
+            steps,
+        )
     }
 }
 

@@ -1,27 +1,33 @@
 //! Evaluating the words behind a name.
-ghost use Rattle.std.specs.Prelude.{◌≡◌, ◌<◌, ◌^◌, Ok, Some, length};
-ghost use Rattle.base_store.specs.Stored.{IsReady, world_of, view_in};
-ghost use Rattle.session.specs.Environment.{Came};
-ghost use Rattle.session.specs.Following.{IsEnd, end_in};
-ghost use Rattle.session.specs.Machine.{concluded, eval_on};
+ghost use Rattle.std.specs.Prelude.{◌≡◌, ◌<◌, ◌≤◌, ◌++◌, ◌∷◌, [], ◌^◌, Ok, length};
+ghost use Rattle.base_store.specs.Stored.{view_in};
+ghost use Rattle.session.specs.Coming.{Came};
+ghost use Rattle.session.specs.Environment.{NamesWithin};
+ghost use Rattle.session.specs.Following.{IsEnd, end_in, target_in};
+ghost use Rattle.session.specs.Machine.{concluded};
 ghost use Rattle.session.specs.Parts.{parts_in};
-ghost use Rattle.session.specs.State.{ChangesUpTo};
+ghost use Rattle.session.specs.Replying.{Said};
+ghost use Rattle.session.specs.Typing.{fault_text};
+ghost use Rattle.session.specs.declared.typing.Purpose.TheVariants as purpose;
+ghost use Rattle.view_steps.specs.Limits.{ChangesUpTo};
 
-use crate::calling::call_on;
+use crate::calling::{call_on, call_with_on};
 use crate::faults::ExecFault;
 use crate::following::{End, follow};
 use crate::printing::print;
 use crate::replies::{Reply, refuse, say};
-use crate::typing::{Purpose, is_typed};
+use crate::typing::{Fault, Purpose, typing_fault};
 use base_store::{AnyRef, Store};
-use elem::{Sink, Steps};
-use map_views::Refusal;
+use elem::{Sink, Steps, Word};
+use indexmap::IndexMap;
 use script_text::Part;
 use std::sync::ledger::Ledger;
+use view_steps::Refusal;
 
 /// Evaluates the words behind a name: they lead to a view that is printed, or to a call on one.
 pub fn evaluate<S: Sink, L: Ledger>(
     store: &mut Store,
+    names: &IndexMap<Word, AnyRef>,
     head: AnyRef,
     line: &[u8],
     parts: &[Part],
@@ -31,17 +37,35 @@ pub fn evaluate<S: Sink, L: Ledger>(
 ) -> Result<(), ExecFault>
     requires head { head < length store.old.nodes }
     requires still { length store.old.nodes ≡ store.old.lasting }
-    requires there { IsReady store.old.places }
-    requires change { ChangesUpTo (2 ^ 62) (world_of store.old.places) }
-    ensures { Came result store.old store.new (λ state. eval_on state (view_in store.old head) (parts_in line.now parts.now)) (S.taken out.old) (S.taken out.new) (S.faults out.old) (S.faults out.new) }
+    requires names { NamesWithin store.old.lasting names.now.entries }
+    requires short { length line.now ≤ 1024 }
+    requires change { ChangesUpTo (2 ^ 62) store.old.world }
+    ensures { Came result store.old store.new (λ state. concluded state (target_in store.old names.now.entries purpose.Reply head (parts_in line.now parts.now))) (S.taken out.old) (S.taken out.new) (S.faults out.old) (S.faults out.new) }
 {
-    if !is_typed(Purpose::Reply, store.shape(head), line, parts) {
-        return say(reply, out, b"?call");
+    if let Some(fault) = typing_fault(
+        store,
+        names,
+        Purpose::Reply,
+        store.shape(head),
+        line,
+        parts,
+    ) {
+        return say_fault(reply, out, fault);
     }
-    let end = follow(store, head, Purpose::Reply, line, parts);
+    let end = follow(store, names, head, Purpose::Reply, line, parts);
     let result = conclude(store, &end, reply, out, steps);
     store.drop_temporary();
     result
+}
+
+/// Says what is wrong with a word.
+pub fn say_fault<S: Sink>(reply: &mut Reply, out: &mut S, fault: Fault) -> Result<(), ExecFault>
+    ensures { Said result (S.taken out.old) (S.taken out.new) (S.faults out.old) (S.faults out.new) (fault_text fault ++ 10 ∷ []) }
+{
+    match fault {
+        Fault::Name => say(reply, out, b"?name"),
+        Fault::Call => say(reply, out, b"?call"),
+    }
 }
 
 /// Does what the words end in.
@@ -53,9 +77,8 @@ fn conclude<S: Sink, L: Ledger>(
     steps: &mut Steps<L>,
 ) -> Result<(), ExecFault>
     requires end { IsEnd store.old end.now }
-    requires there { IsReady store.old.places }
-    requires change { ChangesUpTo (2 ^ 62) (world_of store.old.places) }
-    ensures { Came result store.old store.new (λ state. concluded state (Some (end_in store.old end.now))) (S.taken out.old) (S.taken out.new) (S.faults out.old) (S.faults out.new) }
+    requires change { ChangesUpTo (2 ^ 62) store.old.world }
+    ensures { Came result store.old store.new (λ state. concluded state (Ok (end_in store.old end.now))) (S.taken out.old) (S.taken out.new) (S.faults out.old) (S.faults out.new) }
 {
     match end {
         Ok(end) => conclude_at(store, end, reply, out, steps),
@@ -72,12 +95,12 @@ fn conclude_at<S: Sink, L: Ledger>(
     steps: &mut Steps<L>,
 ) -> Result<(), ExecFault>
     requires end { IsEnd store.old (Ok end.now) }
-    requires there { IsReady store.old.places }
-    requires change { ChangesUpTo (2 ^ 62) (world_of store.old.places) }
-    ensures { Came result store.old store.new (λ state. concluded state (Some (end_in store.old (Ok end.now)))) (S.taken out.old) (S.taken out.new) (S.faults out.old) (S.faults out.new) }
+    requires change { ChangesUpTo (2 ^ 62) store.old.world }
+    ensures { Came result store.old store.new (λ state. concluded state (Ok (end_in store.old (Ok end.now)))) (S.taken out.old) (S.taken out.new) (S.faults out.old) (S.faults out.new) }
 {
     match end {
         End::View(n) => print(store, *n, reply, out, steps),
         End::Call(n, call) => call_on(store, *n, call, reply, out, steps),
+        End::With(n, word, other) => call_with_on(store, *n, *word, *other, reply, out, steps),
     }
 }

@@ -1,24 +1,34 @@
 //! Following the words of an expression, step by step.
-ghost use Rattle.std.specs.Prelude.{◌≡◌, ◌<◌, length, IsSome, Some};
-ghost use Rattle.base_store.specs.Stored.{world_of, view_in, without_temporary};
-ghost use Rattle.map_views.specs.Views.{shape_at};
-ghost use Rattle.session.specs.Typing.{typed_words};
-ghost use Rattle.session.specs.Following.{IsEnd, end_in, node_of, target};
+ghost use Rattle.std.specs.Prelude.{◌≡◌, ◌+◌, ◌<◌, ◌≤◌, length, IfSome, IsOk, IsSome, Ok, Some};
+ghost use Rattle.base_store.specs.Stored.{view_in, without_temporary};
+ghost use Rattle.session.specs.Arguments.{step_with};
+ghost use Rattle.session.specs.Environment.{NamesWithin, named};
+ghost use Rattle.session.specs.Following.{IsEnd, Steps, end_in, node_of, target_in};
 ghost use Rattle.session.specs.Parts.{parts_in};
+ghost use Rattle.session.specs.Typing.{typed_words};
+ghost use Rattle.view_steps.specs.KeptSteps.{step_refusal};
+ghost use Rattle.view_steps.specs.Steps.{apply, apply_form};
+ghost use Rattle.view_steps.specs.Views as view;
 
+use crate::arguments::step_with;
 use crate::typing::{Purpose, Typed, may_call, type_word};
 use base_store::{AnyRef, Store};
-use map_views::{Call, Refusal};
+use elem::Word;
+use indexmap::IndexMap;
+use read_chain::make_view;
 use script_text::Part;
+use view_steps::{Call, OnOther, Refusal, Step, StepForm, takes_argument};
 
 /// The longest path of steps.
-const MOST_STEPS: usize = 32;
+const LONGEST_PATH: usize = 32;
 
 /// What an expression ends in: a view, or a call on one.
 #[derive(Clone, Copy, Debug)]
 pub enum End {
     View(AnyRef),
     Call(AnyRef, Call),
+    /// A call on the first view with the second.
+    With(AnyRef, OnOther, AnyRef),
 }
 
 impl End {
@@ -27,14 +37,19 @@ impl End {
         ensures { result ≡ node_of self.now }
     {
         match self {
-            End::View(n) | End::Call(n, _) => *n,
+            End::View(n) | End::Call(n, _) | End::With(n, _, _) => *n,
         }
     }
 }
 
 /// Follows words that each have a meaning in their place. The views on the way are temporary nodes.
+///
+/// # Errors
+///
+/// The refusal of the first step that is refused, or of its argument.
 pub fn follow(
     store: &mut Store,
+    names: &IndexMap<Word, AnyRef>,
     head: AnyRef,
     purpose: Purpose,
     line: &[u8],
@@ -42,27 +57,80 @@ pub fn follow(
 ) -> Result<End, Refusal>
     requires head { head < length store.old.nodes }
     requires still { length store.old.nodes ≡ store.old.lasting }
-    requires typed { IsSome (typed_words purpose (shape_at (world_of store.old.places) (view_in store.old head)) (parts_in line.now parts.now)) }
-    ensures places { store.new.places ≡ store.old.places }
+    requires names { NamesWithin store.old.lasting names.now.entries }
+    requires short { length line.now ≤ 1024 }
+    requires typed { IsOk (typed_words store.old.world (named store.old.nodes names.now.entries) purpose (view.shape_at store.old.world (view_in store.old head)) (parts_in line.now parts.now)) }
+    ensures world { store.new.world ≡ store.old.world }
     ensures front { without_temporary store.new ≡ without_temporary store.old }
     ensures end { IsEnd store.new result }
-    ensures led { target purpose (world_of store.old.places) (view_in store.old head) (parts_in line.now parts.now) ≡ Some (end_in store.new result) }
+    ensures led { target_in store.old names.now.entries purpose head (parts_in line.now parts.now) ≡ Ok (end_in store.new result) }
 {
     let mut node = head;
     let mut rest = parts;
     while let [part, more @ ..] = rest {
         let may_call = may_call(purpose, more.is_empty());
-        match type_word(may_call, store.shape(node), line, part) {
-            Some(Typed::Step(step)) => {
-                if store.path(node) >= MOST_STEPS {
-                    return Err(Refusal::Limit);
+        let typed = type_word(store, names, may_call, store.shape(node), line, part);
+        let Ok(word) = &typed else {
+            return Err(Refusal::Limit);
+        };
+        match word {
+            Typed::Step(form, _) => match take_step(store, node, *form, part.argument(line, 0)) {
+                Ok(made) => {
+                    node = made;
+                    rest = more;
                 }
-                node = store.new_view(node, &step);
-                rest = more;
-            }
-            Some(Typed::Call(call)) => return Ok(End::Call(node, call)),
-            None => return Err(Refusal::Limit),
+                Err(refusal) => return Err(refusal),
+            },
+            Typed::Call(call) => return Ok(End::Call(node, *call)),
+            Typed::With(word, other) => return Ok(End::With(node, *word, *other)),
         }
     }
     Ok(End::View(node))
+}
+
+/// Makes the view of a step with the argument that a text is over a view, unless the argument or the step is refused.
+fn take_step(
+    store: &mut Store,
+    node: AnyRef,
+    form: StepForm,
+    text: &[u8],
+) -> Result<AnyRef, Refusal>
+    requires node { node < length store.old.nodes }
+    requires room { length store.old.nodes ≤ store.old.lasting + view.path (view_in store.old node) }
+    requires given { IsSome (apply_form (view.shape_at store.old.world (view_in store.old node)) form) }
+    requires short { length text.now ≤ 1024 }
+    ensures { IfSome (step_with form text.now) (λ it. Steps store.old store.new node it result) }
+{
+    match step_with(form, text) {
+        Some(Ok(step)) => make_step(store, node, &step),
+        Some(Err(refusal)) => Err(refusal),
+        None => Err(Refusal::Limit),
+    }
+}
+
+/// Makes the view of a step over a view, unless the step is refused.
+fn make_step(store: &mut Store, node: AnyRef, step: &Step) -> Result<AnyRef, Refusal>
+    requires node { node < length store.old.nodes }
+    requires room { length store.old.nodes ≤ store.old.lasting + view.path (view_in store.old node) }
+    requires given { IsSome (apply (view.shape_at store.old.world (view_in store.old node)) step.now) }
+    ensures { Steps store.old store.new node (Ok step.now) result }
+{
+    if store.path(node) < LONGEST_PATH {
+        make_view(store, node, step)
+    } else {
+        Err(refusal_past(store, node, step))
+    }
+}
+
+/// Why a step over a view at the end of the longest path is refused: for its argument, or for the length of the path.
+fn refusal_past(store: &Store, node: AnyRef, step: &Step) -> Refusal
+    requires node { node < length store.now.nodes }
+    requires long { 32 ≤ view.path (view_in store.now node) }
+    ensures { step_refusal store.now.world (view_in store.now node) step.now ≡ Some result }
+{
+    if takes_argument(store.order_of(node), &store.window_of(node), step) {
+        Refusal::Limit
+    } else {
+        Refusal::IllegalArgument
+    }
 }

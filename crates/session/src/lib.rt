@@ -1,8 +1,8 @@
 //! A session: names, and the lines that are executed over them.
 #![tactic(auto)]
 
+mod arguments;
 mod calling;
-mod entries;
 mod environment;
 mod evaluating;
 mod faults;

@@ -1,20 +1,18 @@
 //! Printing a view.
 ghost use Rattle.std.specs.Prelude.{◌≡◌, ◌<◌, ◌++◌, ◌∷◌, [], length, map as mapped};
-ghost use Rattle.elem.specs.Keyed.{IsPresent};
-ghost use Rattle.base_store.specs.Stored.{IsReady, world_of, view_in};
-ghost use Rattle.session.specs.Printing.{items_of, item_of_key, separator};
+ghost use Rattle.base_store.specs.Stored.{view_in};
+ghost use Rattle.session.specs.Printing.{separator};
 ghost use Rattle.session.specs.Replying.{Goes, Said};
-ghost use Rattle.map_views.specs.Texts as text;
-ghost use Rattle.map_views.specs.Views.{shape_at, shown};
+ghost use Rattle.view_steps.specs.Texts as text;
+ghost use Rattle.view_steps.specs.Views.{shape_at, shown};
 
-use crate::entries::map_at;
 use crate::faults::ExecFault;
 use crate::replies::Reply;
 use base_store::{AnyRef, Store};
-use elem::{Elem, Keyed, Sink, Steps, write_elem};
-use linked_base::LinkedMap;
-use map_views::Shape;
+use elem::{Sink, Steps, write_elem};
+use read_chain::Walk;
 use std::sync::ledger::Ledger;
+use view_steps::{Item, RowSort, Shape};
 
 /// Says the text of a view.
 pub fn print<S: Sink, L: Ledger>(
@@ -25,14 +23,13 @@ pub fn print<S: Sink, L: Ledger>(
     steps: &mut Steps<L>,
 ) -> Result<(), ExecFault>
     requires node { n < length store.now.nodes }
-    requires there { IsReady store.now.places }
-    ensures { let w = world_of store.now.places in let v = view_in store.now n in
+    ensures { let w = store.now.world in let v = view_in store.now n in
         Said result (S.taken out.old) (S.taken out.new) (S.faults out.old) (S.faults out.new) (text.view_text (shape_at w v) (shown w v) ++ 10 ∷ []) }
 {
     let shape = store.shape(n);
     reply.begin();
     reply.write(out, opening(shape));
-    write_items(map_at(store, n), shape, reply, out, steps);
+    write_items(store, n, reply, out, steps);
     reply.write(out, closing(shape));
     reply.end(out)
 }
@@ -41,7 +38,7 @@ fn opening(shape: Shape) -> &'static [u8]
     ensures { result.now ≡ text.opening shape }
 {
     match shape {
-        Shape::Set { .. } => b"[",
+        Shape::List | Shape::Set { .. } | Shape::Coll | Shape::Rows(RowSort::Entry) => b"[",
         Shape::Map { .. } => b"{",
     }
 }
@@ -50,58 +47,48 @@ fn closing(shape: Shape) -> &'static [u8]
     ensures { result.now ≡ text.closing shape }
 {
     match shape {
-        Shape::Set { .. } => b"]",
+        Shape::List | Shape::Set { .. } | Shape::Coll | Shape::Rows(RowSort::Entry) => b"]",
         Shape::Map { .. } => b"}",
     }
 }
 
-/// Writes what a view of a shape shows of a map.
+/// Writes what a view shows.
 fn write_items<S: Sink, L: Ledger>(
-    map: &LinkedMap<Elem>,
-    shape: Shape,
+    store: &Store,
+    n: AnyRef,
     reply: &mut Reply,
     out: &mut S,
     steps: &mut Steps<L>,
 )
-    ensures { Goes (S.taken out.old) (S.taken out.new) (S.faults out.old) (S.faults out.new) reply.old reply.new (text.listed (mapped text.item_text (items_of shape map.now))) }
+    requires node { n < length store.now.nodes }
+    ensures { Goes (S.taken out.old) (S.taken out.new) (S.faults out.old) (S.faults out.new) reply.old reply.new (text.listed (mapped text.item_text (shown store.now.world (view_in store.now n)))) }
 {
-    let mut next = map.first(steps);
-    for i in 0..map.len() {
-        let Some(key) = next else {
-            return;
-        };
-        let shown = key;
-        reply.write(out, separator(i));
-        write_item(map, shape, shown, reply, out, steps);
-        next = map.after(key, steps);
+    let mut walk = Walk::over(store, n, false);
+    let mut is_first = true;
+    while let Some(item) = walk.next(store, steps) {
+        reply.write(out, separator(is_first));
+        write_item(&item, reply, out);
+        is_first = false;
     }
 }
 
-/// What stands before the i-th item.
-fn separator(i: usize) -> &'static [u8]
-    ensures { result.now ≡ separator i }
+/// What stands before an item.
+fn separator(is_first: bool) -> &'static [u8]
+    ensures { result.now ≡ separator is_first }
 {
-    if i == 0 { b"" } else { b", " }
+    if is_first { b"" } else { b", " }
 }
 
-/// Writes what a view of a shape shows at a key of a map.
-fn write_item<S: Sink, L: Ledger>(
-    map: &LinkedMap<Elem>,
-    shape: Shape,
-    k: Elem,
-    reply: &mut Reply,
-    out: &mut S,
-    steps: &mut Steps<L>,
-)
-    requires { IsPresent map.now k }
-    ensures { Goes (S.taken out.old) (S.taken out.new) (S.faults out.old) (S.faults out.new) reply.old reply.new (item_of_key shape map.now k) }
+/// Writes an element, or a key and its value.
+fn write_item<S: Sink>(item: &Item, reply: &mut Reply, out: &mut S)
+    ensures { Goes (S.taken out.old) (S.taken out.new) (S.faults out.old) (S.faults out.new) reply.old reply.new (text.item_text item.now) }
 {
-    let key = k;
-    reply.write(out, write_elem(key).as_slice());
-    if let Shape::Map { .. } = shape
-        && let Some(value) = map.probe(k, steps)
-    {
-        reply.write(out, b"=");
-        reply.write(out, write_elem(value).as_slice());
+    match item {
+        Item::One(x) => reply.write(out, write_elem(*x).as_slice()),
+        Item::Entry(k, v) => {
+            reply.write(out, write_elem(*k).as_slice());
+            reply.write(out, b"=");
+            reply.write(out, write_elem(*v).as_slice());
+        }
     }
 }

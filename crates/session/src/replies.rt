@@ -2,14 +2,15 @@
 ghost use Rattle.std.specs.Prelude.{◌≡◌, ◌++◌, ◌∷◌, [], decimal};
 ghost use Rattle.std.specs.Bool.{OnFalse, OnTrue};
 ghost use Rattle.session.specs.Replying.{Goes, Refuses, Said, nothing_pending, with_piece, flushed, sent_result};
-ghost use Rattle.map_views.specs.Texts.{optional_text, truth_text};
+ghost use Rattle.view_steps.specs.Answers.{answer_text, index_text};
+ghost use Rattle.view_steps.specs.Texts.{optional_text, truth_text};
 
 use crate::faults::ExecFault;
 use arrayvec::ArrayVec;
 use elem::{Elem, Sink, write_elem};
 use itoa::Buffer;
-use map_views::Refusal;
 use std::marker::Model;
+use view_steps::{Answer, Refusal};
 
 /// A reply on its way to the sink: it goes there in one piece where it is short, in pieces of at most 4 KiB where it is
 /// not. After a failure of the sink nothing more goes there, until the next reply is begun.
@@ -107,8 +108,22 @@ pub fn say<S: Sink>(reply: &mut Reply, out: &mut S, text: &[u8]) -> Result<(), E
     reply.end(out)
 }
 
+/// Says the answer of a call.
+pub fn say_answer<S: Sink>(reply: &mut Reply, out: &mut S, answer: &Answer) -> Result<(), ExecFault>
+    ensures { Said result (S.taken out.old) (S.taken out.new) (S.faults out.old) (S.faults out.new) (answer_text answer.now ++ 10 ∷ []) }
+{
+    match answer {
+        Answer::Done => say(reply, out, b"ok"),
+        Answer::Truth(truth) => say_truth(reply, out, *truth),
+        Answer::Number(number) => say_number(reply, out, *number),
+        Answer::Index(index) => say_index(reply, out, *index),
+        Answer::Element(x) => say(reply, out, write_elem(*x).as_slice()),
+        Answer::Optional(value) => say_optional(reply, out, *value),
+    }
+}
+
 /// Says an element, or `null`.
-pub fn say_optional<S: Sink>(
+fn say_optional<S: Sink>(
     reply: &mut Reply,
     out: &mut S,
     value: Option<Elem>,
@@ -122,7 +137,7 @@ pub fn say_optional<S: Sink>(
 }
 
 /// Says `true` or `false`.
-pub fn say_truth<S: Sink>(reply: &mut Reply, out: &mut S, truth: bool) -> Result<(), ExecFault>
+fn say_truth<S: Sink>(reply: &mut Reply, out: &mut S, truth: bool) -> Result<(), ExecFault>
     ensures { Said result (S.taken out.old) (S.taken out.new) (S.faults out.old) (S.faults out.new) (truth_text truth ++ 10 ∷ []) }
 {
     if truth {
@@ -133,11 +148,21 @@ pub fn say_truth<S: Sink>(reply: &mut Reply, out: &mut S, truth: bool) -> Result
 }
 
 /// Says a number.
-pub fn say_number<S: Sink>(reply: &mut Reply, out: &mut S, number: usize) -> Result<(), ExecFault>
+fn say_number<S: Sink>(reply: &mut Reply, out: &mut S, number: usize) -> Result<(), ExecFault>
     ensures { Said result (S.taken out.old) (S.taken out.new) (S.faults out.old) (S.faults out.new) (decimal number ++ 10 ∷ []) }
 {
     let mut digits = Buffer::new();
     say(reply, out, digits.format(number).as_bytes())
+}
+
+/// Says an index, or -1.
+fn say_index<S: Sink>(reply: &mut Reply, out: &mut S, index: Option<usize>) -> Result<(), ExecFault>
+    ensures { Said result (S.taken out.old) (S.taken out.new) (S.faults out.old) (S.faults out.new) (index_text index ++ 10 ∷ []) }
+{
+    match index {
+        Some(i) => say_number(reply, out, i),
+        None => say(reply, out, b"-1"),
+    }
 }
 
 /// Says why a line is refused. Want of memory is not said.

@@ -2,9 +2,11 @@
 ghost use Rattle.std.specs.Prelude.{◌≡◌, ℕ, ◌+◌, ◌^◌, ◌≤◌, Err, OnOk};
 ghost use Rattle.elem.specs.Outside.{Rose};
 ghost use Rattle.session.specs.Executing.{Executed};
-ghost use Rattle.session.specs.Machine.{step, written};
+ghost use Rattle.session.specs.Machine.{step};
+ghost use Rattle.session.specs.Outcomes.{written};
 ghost use Rattle.session.specs.Replying.{Wrote};
-ghost use Rattle.session.specs.State.{ChangesUpTo, empty};
+ghost use Rattle.session.specs.State.{empty};
+ghost use Rattle.view_steps.specs.Limits.{ChangesUpTo};
 
 use crate::environment::Environment;
 use crate::faults::ExecFault;
@@ -30,7 +32,7 @@ pub struct Session {
 impl Model for Session {
     ghost use Rattle.session.specs.State.{State};
     ghost use Rattle.std.specs.Coded.{codes};
-    ghost use Rattle.map_views.specs.ViewCode.{view_code};
+    ghost use Rattle.view_steps.specs.ViewCode.{view_code};
 
     ghost Value = { State };
 

@@ -1,29 +1,27 @@
-use Rattle.std.proofs.Common.{ℕ, List, sym, ◌∙◌, ap, arith}
-use Rattle.map_views.specs.Texts.{listed}
-use Rattle.session.proofs.PrintLemmas.{first_key-drop, key_present, next_key, more_said, no_key, all_said}
+use Rattle.std.proofs.Common.{List, [], ◌++◌, map, ap}
+use Rattle.base_store.specs.Stored.{view_in}
+use Rattle.read_chain.specs.Walks.{to_come}
+use Rattle.view_steps.specs.declared.items.Item.{Item}
+use Rattle.view_steps.specs.Texts.{item_text, listed}
+use Rattle.view_steps.specs.Views.{shown}
+use Rattle.session.specs.Printing.{separator}
+use Rattle.session.proofs.PrintLemmas.{item_said, all_said}
 use Rattle.session.proofs.ReplyLemmas.{goes_none, goes_more, goes_text}
 use Rattle.session.proofs.printing.write_items.Goals as goal
 
-pub loop-i-init : goal.loop-i-init
-loop-i-init g c = record { next_is = c.first-next.ensures.key ∙ first_key-drop c.args.map.now 0; goes = goes_none _ _ _ }
+pub loop-item-init : goal.loop-item-init
+loop-item-init g c = record { walk = c.over-walk.ensures.walk; said = []; goes = goes_none _ _ _; whole = ap (λ (items : List Item). listed (map item_text items)) c.over-walk.ensures.items }
 
-pub write_item-requires : goal.write_item-requires
-write_item-requires g c = key_present c.args.map.now c.loop-i.i c.in-Some.key c.len-i-end.ensures.distinct (sym c.in-Some.is ∙ c.loop-i.invariant.next_is)
-
-pub after-next-requires : goal.after-next-requires
-after-next-requires g c = key_present c.args.map.now c.loop-i.i c.in-Some.key c.len-i-end.ensures.distinct (sym c.in-Some.is ∙ c.loop-i.invariant.next_is)
-
-pub loop-i-preserved : goal.loop-i-preserved
-loop-i-preserved g c =
-    let here = sym c.in-Some.is ∙ c.loop-i.invariant.next_is in
-    record {
-      next_is = c.after-next.ensures.key ∙ next_key c.args.map.now c.loop-i.i c.in-Some.key c.len-i-end.ensures.distinct here;
-      goes = goes_text _ _ (sym (more_said c.args.shape c.args.map.now c.loop-i.i c.in-Some.key c.len-i-end.ensures.distinct here))
-          (goes_more _ _ _ _ _ _ _ _ _ _ _ c.loop-i.invariant.goes (goes_more _ _ _ _ _ _ _ _ _ _ _ (rw c.separator.ensures at c.write.ensures) c.write_item.ensures));
-    }
-
-pub returns-in_default : goal.returns-in_default
-returns-in_default g c = goes_text _ _ (ap (λ (texts : List (List ℕ)). listed texts) (all_said c.args.shape c.args.map.now c.loop-i.i (sym c.in_default.is ∙ c.loop-i.invariant.next_is))) c.loop-i.invariant.goes
+pub loop-item-preserved : goal.loop-item-preserved
+loop-item-preserved g c = record {
+  walk = c.in-Some.ensures.walk;
+  said = c.loop-item.invariant.said ++ (separator c.loop-item.is_first ++ item_text c.in-Some.item);
+  goes = goes_more c.loop-item.invariant.goes (goes_more (rw c.separator.ensures at c.write.ensures) c.write_item.ensures);
+  whole = item_said c.loop-item.is_first c.loop-item.invariant.said (listed (map item_text (shown c.args.store.now.world (view_in c.args.store.now c.args.n)))) c.in-Some.item
+      (to_come c.args.store.now c.loop-item.walk) (to_come c.args.store.now c.next.new.self) c.in-Some.ensures.item c.loop-item.invariant.whole;
+}
 
 pub returns : goal.returns
-returns g c = goes_text _ _ (ap (λ (texts : List (List ℕ)). listed texts) (all_said c.args.shape c.args.map.now c.loop-i.i (no_key c.args.map.now c.loop-i.i (omega (arith, c.loop-i-test, c.len-i-end.ensures.len))))) c.loop-i.invariant.goes
+returns g c =
+    goes_text (all_said c.loop-item.is_first c.loop-item.invariant.said (listed (map item_text (shown c.args.store.now.world (view_in c.args.store.now c.args.n)))) (to_come c.args.store.now c.loop-item.walk) c.in_default.ensures.item.0 c.loop-item.invariant.whole)
+    c.loop-item.invariant.goes

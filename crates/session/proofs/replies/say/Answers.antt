@@ -2,4 +2,4 @@ use Rattle.session.proofs.ReplyLemmas.{goes_more, said_of}
 use Rattle.session.proofs.replies.say.Goals as goal
 
 pub returns : goal.returns
-returns g c = said_of _ _ _ _ _ _ _ (goes_more _ _ _ _ _ _ _ _ _ _ _ (rw c.begin.ensures at c.write.ensures) c.end.ensures.goes) c.end.ensures.flushed c.end.ensures.result
+returns g c = said_of (goes_more (rw c.begin.ensures at c.write.ensures) c.end.ensures.goes) c.end.ensures.flushed c.end.ensures.result

@@ -1,19 +1,23 @@
 use Rattle.std.proofs.Common.{◌<◌, ℕ, List, length, refl, sym, ◌∙◌, ap, subst}
-use Rattle.std.specs.Option.{is_some, option_copied}
+use Rattle.std.specs.Option.{option_copied}
+use Rattle.std.specs.Result.{result_err}
 use Rattle.std.specs.Prelude.{codes}
 use Rattle.base_store.specs.Stored.{view_in}
 use Rattle.session.specs.declared.typing.Purpose.TheVariants as purpose
 use Rattle.session.specs.Executing.{Executed}
-use Rattle.session.specs.Machine.{says, let_of}
+use Rattle.session.specs.Machine.{let_of}
+use Rattle.session.specs.Outcomes.{says}
 use Rattle.script_text.specs.Parts.{part_in}
-use Rattle.session.specs.Environment.{named, seen_as}
+use Rattle.session.specs.Coming.{seen_as}
+use Rattle.session.specs.Environment.{NamesWithin, named}
 use Rattle.session.specs.Parts.{Part, parts_in}
 use Rattle.std.proofs.lemmas.List.{length-map}
 use Rattle.session.specs.State.{State, view_named}
 use Rattle.session.specs.Typing.{typed_words}
 use Rattle.session.proofs.BindLemmas.{Led, executed_let, settled_kept}
+use Rattle.session.proofs.EvalLemmas.{fault_reached, no_fault}
 use Rattle.session.proofs.NameLemmas.{executed_said, found_within}
-use Rattle.session.proofs.SessionLemmas.{executed_from, executed_untyped, name_unknown}
+use Rattle.session.proofs.SessionLemmas.{executed_from, executed_fault, name_unknown}
 use Rattle.session.proofs.environment.Environment.bind.Given as given
 use Rattle.session.proofs.environment.Environment.bind.Goals as goal
 
@@ -25,23 +29,33 @@ returns-in_default g c =
     let none = ap (λ (x : State). view_named x.names c.args.head) (sym c.self.view_is) ∙ unknown in
     executed_from c.args.self.now c.args.self.now _ (λ state. says state (codes "?name")) _ refl (sym (ap (λ o. let_of c.args.self.now c.args.name o (parts_in c.args.line.now c.args.parts.now)) none)) (executed_said _ _ _ _ _ _ (codes "?name") c.say.ensures)
 
-pub shape-requires : goal.shape-requires
-shape-requires g c =
+pub shape-shape-requires : goal.shape-shape-requires
+shape-shape-requires g c =
     subst (λ (n : ℕ). c.in-Some.head.now < n) (sym c.self.invariant.still) (found_within _ c.self.inside.names.entries c.args.head _ c.self.invariant.named_within (sym c.get.ensures.value ∙ ap option_copied c.in-Some.is))
 
-pub returns-then-not-is_typed : goal.returns-then-not-is_typed
-returns-then-not-is_typed g c =
+pub returns-in-Some-fault : goal.returns-in-Some-fault
+returns-in-Some-fault g c =
     let s = c.self.inside.store in
-    let untyped = sym (c.if-not-is_typed.ensures ∙ ap (λ of. is_some (typed_words purpose.Name of (parts_in c.args.line.now c.args.parts.now))) c.shape.ensures) in
-    subst (λ (x : State). Executed c.say-then-not-is_typed.result x x (let_of x c.args.name (view_named x.names c.args.head) (parts_in c.args.line.now c.args.parts.now)) (g.S.Sink.taken c.args.out.now) (g.S.Sink.taken c.say-then-not-is_typed.new.out) (g.S.Sink.faults c.args.out.now) (g.S.Sink.faults c.say-then-not-is_typed.new.out)) c.self.view_is
-    (executed_untyped s c.self.inside.names.entries c.args.name c.args.head c.in-Some.head.now (parts_in c.args.line.now c.args.parts.now) (sym c.get.ensures.value ∙ ap option_copied c.in-Some.is) untyped c.say-then-not-is_typed.ensures)
+    let names = c.self.inside.names.entries in
+    let parts = parts_in c.args.line.now c.args.parts.now in
+    let fault = c.in-Some-fault.ensures ∙ ap (λ of. result_err (typed_words s.world (named s.nodes names) purpose.Name of parts)) c.shape-shape.ensures in
+    subst (λ (x : State). Executed c.say_fault.result x x (let_of x c.args.name (view_named x.names c.args.head) parts) (g.S.Sink.taken c.args.out.now) (g.S.Sink.taken c.say_fault.new.out) (g.S.Sink.faults c.args.out.now) (g.S.Sink.faults c.say_fault.new.out)) c.self.view_is
+    (executed_fault s names c.args.name c.args.head c.in-Some.head.now parts c.in-Some-fault.fault (sym c.get.ensures.value ∙ ap option_copied c.in-Some.is) (fault_reached s.world (view_in s c.in-Some.head.now) _ c.in-Some-fault.fault fault) c.say_fault.ensures)
 
 pub follow-end-requires-clause-head : goal.follow-end-requires-clause-head
 follow-end-requires-clause-head g c =
     subst (λ (n : ℕ). c.in-Some.head.now < n) (sym c.self.invariant.still) (found_within _ c.self.inside.names.entries c.args.head _ c.self.invariant.named_within (sym c.get.ensures.value ∙ ap option_copied c.in-Some.is))
 
+pub typing_fault-fault-requires-clause-names : goal.typing_fault-fault-requires-clause-names
+typing_fault-fault-requires-clause-names g c = subst (λ (n : ℕ). NamesWithin n c.self.inside.names.entries) (sym c.self.invariant.still) c.self.invariant.named_within
+
+pub follow-end-requires-clause-typed : goal.follow-end-requires-clause-typed
+follow-end-requires-clause-typed g c =
+    let s = c.self.inside.store in
+    no_fault _ (c.in_default-fault.ensures ∙ ap (λ of. result_err (typed_words s.world (named s.nodes c.self.inside.names.entries) purpose.Name of (parts_in c.args.line.now c.args.parts.now))) c.shape-shape.ensures)
+
 led : (g : given.Over) (c : goal.After-tell_kept g) → Led c.self.inside.store c.follow-end.new.store c.self.inside.names.entries c.follow-end.result
-led g c = record { settled = c.self.invariant; places = c.follow-end.ensures.places; front = c.follow-end.ensures.front; ends = c.follow-end.ensures.end }
+led g c = record { settled = c.self.invariant; world = c.follow-end.ensures.world; front = c.follow-end.ensures.front; ends = c.follow-end.ensures.end }
 
 pub invariant_of-self : goal.invariant_of-self
 invariant_of-self g c = settled_kept _ _ _ c.self.inside.names.entries _ c.args.name _ _ _ (led g c) c.keep_end-kept.ensures

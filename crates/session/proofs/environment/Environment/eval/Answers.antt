@@ -1,7 +1,8 @@
 use Rattle.std.proofs.Common.{◌<◌, ℕ, refl, sym, ◌∙◌, ap, subst}
 use Rattle.std.specs.Option.{option_copied}
 use Rattle.std.specs.Prelude.{codes}
-use Rattle.session.specs.Machine.{says, eval_of}
+use Rattle.session.specs.Machine.{eval_of}
+use Rattle.session.specs.Outcomes.{says}
 use Rattle.session.specs.Parts.{parts_in}
 use Rattle.session.specs.State.{State, view_named}
 use Rattle.session.proofs.NameLemmas.{executed_said, found_within}

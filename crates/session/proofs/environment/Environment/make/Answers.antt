@@ -1,7 +1,8 @@
 use Rattle.std.proofs.Common.{Some, refl, sym, ◌∙◌, ap}
 use Rattle.std.specs.Prelude.{codes}
-use Rattle.map_views.specs.Kinds.{kind_named}
-use Rattle.session.specs.Machine.{says, new_of}
+use Rattle.view_steps.specs.Kinds.{kind_named}
+use Rattle.session.specs.Machine.{new_of}
+use Rattle.session.specs.Outcomes.{says}
 use Rattle.session.proofs.NameLemmas.{Added, executed_new, executed_said, ok_at, ok_part, settled_more}
 use Rattle.session.proofs.SessionLemmas.{executed_from, executed_full, executed_no_memory, seen_same}
 use Rattle.session.proofs.environment.Environment.make.Given as given
@@ -19,7 +20,7 @@ added : (g : given.Over) (c : goal.After-say-in-Ok g) → Added c.self.inside.st
 added g c =
     let room = ok_part c.reserve.result (sym c.if-is_err.ensures.value) c.reserve.ensures.ok in
     let entries = ok_at c.insert.result (c.insert.ensures.succeeds room) c.insert.ensures.entries in
-    record { settled = c.self.invariant; grown = c.in-Ok.ensures.ok; ready = c.in-Ok.ensures.ready; room = c.in-Ok.ensures.room; entered = rw (c.reserve.ensures.entries, c.in-Ok.ensures.number) at entries }
+    record { settled = c.self.invariant; grown = c.in-Ok.ensures.ok; room = c.in-Ok.ensures.room; entered = rw (c.reserve.ensures.entries, c.in-Ok.ensures.number) at entries }
 
 pub invariant_of-self-in-Ok : goal.invariant_of-self-in-Ok
 invariant_of-self-in-Ok g c = settled_more _ _ _ _ _ _ (added g c)

@@ -2,4 +2,4 @@ use Rattle.session.proofs.ReplyLemmas.{goes_more}
 use Rattle.session.proofs.replies.Reply.end.Goals as goal
 
 pub returns-clause-goes : goal.returns-clause-goes
-returns-clause-goes g c = goes_more _ _ _ _ _ _ _ _ _ _ _ c.write.ensures c.flush.ensures.goes
+returns-clause-goes g c = goes_more c.write.ensures c.flush.ensures.goes

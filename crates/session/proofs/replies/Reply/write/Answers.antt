@@ -9,4 +9,4 @@ returns-then-not-keep g c =
     let held : inside ≡ c.flush.new.self = c.self.view_is ∙ c.if-not-keep.ensures.full in
     let empty : inside.bytes ≡ [] = ap (λ (p : Pending). p.bytes) held ∙ c.flush.ensures.flushed in
     let first = rw c.if-keep.ensures.full at c.flush.ensures.goes in
-    goes_more (g.S.Sink.taken c.args.out.now) (g.S.Sink.taken c.flush.new.out) (g.S.Sink.taken c.send-self-inside.new.out) (g.S.Sink.faults c.args.out.now) (g.S.Sink.faults c.flush.new.out) (g.S.Sink.faults c.send-self-inside.new.out) c.args.self.now inside (record { bytes = inside.bytes; failed = c.send-self-inside.result }) [] c.args.piece.now (rw held first) (goes_sent (g.S.Sink.taken c.flush.new.out) (g.S.Sink.taken c.send-self-inside.new.out) (g.S.Sink.faults c.flush.new.out) (g.S.Sink.faults c.send-self-inside.new.out) inside c.send-self-inside.result c.args.piece.now empty c.send-self-inside.ensures)
+    goes_more {x = []} (rw held first) (goes_sent inside c.send-self-inside.result c.args.piece.now empty c.send-self-inside.ensures)

@@ -2,12 +2,13 @@ use Rattle.std.proofs.Common.{None, refl, ap, ◌∙◌}
 use Rattle.std.specs.Prelude.{codes}
 use Rattle.script_text.specs.Lines.{placed_line}
 use Rattle.script_text.specs.Names.{kind_text}
-use Rattle.session.specs.Machine.{says, new_of, let_of, eval_of}
+use Rattle.session.specs.Machine.{new_of, let_of, eval_of}
+use Rattle.session.specs.Outcomes.{says}
 use Rattle.session.specs.Parts.{parts_in}
 use Rattle.session.specs.State.{view_named}
-use Rattle.map_views.specs.Kinds.{kind_named}
+use Rattle.view_steps.specs.Kinds.{kind_named}
 use Rattle.session.proofs.NameLemmas.{executed_said}
-use Rattle.session.proofs.SessionLemmas.{executed_blank, executed_from, on_blank, on_long, on_syntax, on_it, on_new, on_let, on_eval}
+use Rattle.session.proofs.SessionLemmas.{executed_blank, executed_from, on_blank, on_long, on_syntax, on_it, on_new, on_let, on_eval, short_let, short_eval}
 use Rattle.session.proofs.session.Session.execute.Goals as goal
 
 pub returns-in-Blank : goal.returns-in-Blank
@@ -42,3 +43,9 @@ returns-in-Eval g c =
     executed_from _ c.args.self.now _ (λ state. eval_of state (view_named state.names c.in-Eval.head) (parts_in c.args.line.now c.as_slice-parts-in-Eval.result.now)) _ c.self.view_is
     (ap (λ ps. eval_of c.args.self.now (view_named c.args.self.now.names c.in-Eval.head) (parts_in c.args.line.now ps)) c.as_slice-parts-in-Eval.ensures.value
     ∙ on_eval c.args.self.now c.args.line.now c.in-Eval.head c.read_line.new.parts.items (placed_line c.args.line.now) c.in-Eval.ensures.placed) c.eval.ensures
+
+pub bind-requires : goal.bind-requires
+bind-requires g c = short_let c.in-Let.name c.in-Let.head c.args.line.now c.read_line.new.parts.items c.in-Let.ensures.placed
+
+pub eval-requires-clause-short : goal.eval-requires-clause-short
+eval-requires-clause-short g c = short_eval c.in-Eval.head c.args.line.now c.read_line.new.parts.items c.in-Eval.ensures.placed
