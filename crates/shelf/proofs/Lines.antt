@@ -10,7 +10,7 @@ use Rattle.elem.specs.Lexing.{lexed}
 use Rattle.script_text.specs.Lines.{form_of, is_comment, is_new, line_of, new_of, placed_line, tree_or_fault}
 use Rattle.script_text.specs.Trees.{Blank, Call, Long, Tree, in_pieces, map_tree}
 use Rattle.script_text.specs.declared.lines.Slice.{Slice}
-use Rattle.session.specs.Machine.{written}
+use Rattle.session.specs.Outcomes.{written}
 use Rattle.shelf.specs.Transcript.{lines_of, replies, transcript, before_lines, whole_lines}
 use Rattle.shelf.specs.Feed.{IsOneLine, kept, replies_with, replies_on, whole_replies_on}
 

@@ -2,10 +2,11 @@
 use Rattle.std.proofs.Common.{◌≡◌, ℕ, ◌+◌, ◌≤◌, Bool, List, [], ◌∷◌, ◌++◌, length, Option, None, Some, Result, Ok, Err, OnOk, OnErr, cond, refl, sym, ◌∙◌, ap, subst, append_assoc, arith, length-append}
 use Rattle.std.proofs.lemmas.List.{append-nil, take_all}
 use Rattle.elem.specs.Outside.{Takes, Stays}
-use Rattle.map_views.specs.Views.{Base}
-use Rattle.session.specs.State.{State, ChangesUpTo}
+use Rattle.view_steps.specs.Views.{Base}
+use Rattle.session.specs.State.{State}
+use Rattle.view_steps.specs.Limits.{ChangesUpTo}
 use Rattle.session.specs.Machine.{step, step_of}
-use Rattle.session.specs.Machine.{written}
+use Rattle.session.specs.Outcomes.{written}
 use Rattle.session.specs.Replying.{Wrote}
 use Rattle.session.specs.declared.faults.ExecFault.{ExecFault}
 use Rattle.session.specs.declared.faults.ExecFault.TheVariants.{WriteFault, NoMemory}

@@ -3,7 +3,7 @@ use Rattle.std.specs.Prelude.{◌≡◌, ℕ, ◌==◌, false, List, [], ◌∷�
 use Rattle.elem.specs.Outside.{Takes, IsFront}
 use Rattle.session.specs.State.{State, empty}
 use Rattle.session.specs.Machine.{step}
-use Rattle.session.specs.Machine.{written}
+use Rattle.session.specs.Outcomes.{written}
 
 -- what is kept of a line: no more than shows that it is too long
 abbrev pub kept : List ℕ → List ℕ

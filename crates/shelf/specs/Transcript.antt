@@ -2,7 +2,8 @@
 use Rattle.std.specs.Prelude.{ℕ, ◌==◌, List, [], ◌∷◌, ◌++◌, if◌then◌else◌}
 use Rattle.std.specs.List.{onto_first}
 use Rattle.session.specs.State.{State, empty}
-use Rattle.session.specs.Machine.{step, written}
+use Rattle.session.specs.Machine.{step}
+use Rattle.session.specs.Outcomes.{written}
 
 -- The lines are the pieces between newlines, and a last piece that is not empty.
 abbrev pub lines_of : List ℕ → List (List ℕ)

@@ -1,12 +1,15 @@
 //! Worked scripts, and what they write.
 ghost use Rattle.std.specs.Prelude.{◌≡◌, ◌<◌};
 
+mod worked;
+
 use crate::{Status, Words, run};
 use elem::{MemInputs, MemSink, NoMemory, Steps};
 use std::alloc::Global;
 use std::marker::Brand;
 use std::sync::ledger::{Blank, Ledger};
 use std::test::Fail;
+use worked::WORKED;
 
 /// Runs a script that comes in reads of at most so many bytes.
 fn run_script<L: Ledger>(
@@ -31,41 +34,13 @@ fn run_script<L: Ledger>(
 }
 
 #[test]
-fn an_empty_script_writes_nothing(rt: HostRuntime) -> Result<(), Fail> {
-    let (status, sink) = run_script::<Brand>(rt.alloc(), Blank::new(1), b"", 1)
-        .ok()
-        .ok_or("memory")?;
-    assert_eq!(rt; status, Status::Done);
-    assert_eq!(rt; sink.bytes(), b"".as_slice());
-    Ok(())
-}
-
-#[test]
-fn a_linked_map_and_its_set_of_keys(rt: HostRuntime) -> Result<(), Fail> {
-    let script =
-        b"new m LinkedHashMap\nm.put(a, 1)\nm.put(a, 2)\nm\nm.get(b)\nm.keySet.remove(a)\nm\nm.remove(a)";
-    let (status, sink) = run_script::<Brand>(rt.alloc(), Blank::new(1), script, 3)
-        .ok()
-        .ok_or("memory")?;
-    assert_eq!(rt; status, Status::Done);
-    assert_eq!(rt;
-        sink.bytes(),
-        b"ok\nnull\n1\n{a=2}\nnull\ntrue\n{}\nnull\n".as_slice()
-    );
-    Ok(())
-}
-
-#[test]
-fn a_view_with_a_name_is_live(rt: HostRuntime) -> Result<(), Fail> {
-    let script =
-        b"new m LinkedHashMap\nlet k = m.keySet\nk.add(a)\nm.put(a, 1)\nk.contains(a)\nk\nlet m = k\nk.size\nlet z = m.size\nz\nlet q = r\nm.get([1 .. b])\nit i = k\nlet 1 = m";
-    let (status, sink) = run_script::<Brand>(rt.alloc(), Blank::new(1), script, 64)
-        .ok()
-        .ok_or("memory")?;
-    assert_eq!(rt; status, Status::Done);
-    assert_eq!(rt;
-        sink.bytes(),
-        b"ok\nok\nUnsupportedOperationException\nnull\ntrue\n[a]\nok\n1\n?call\n?name\n?name\n?call\n?call\n?syntax\n".as_slice()
-    );
+fn worked_scripts_write_their_transcripts(rt: HostRuntime) -> Result<(), Fail> {
+    for (script, transcript) in WORKED.iter() {
+        let (status, sink) = run_script::<Brand>(rt.alloc(), Blank::new(1), script, 3)
+            .ok()
+            .ok_or("memory")?;
+        assert_eq!(rt; status, Status::Done);
+        assert_eq!(rt; sink.bytes(), *transcript);
+    }
     Ok(())
 }

@@ -3,7 +3,7 @@ use Rattle.std.proofs.lemmas.List.{append-nil}
 use Rattle.elem.specs.Outside.{Takes}
 use Rattle.session.specs.State.{State}
 use Rattle.session.specs.Machine.{step}
-use Rattle.session.specs.Machine.{written}
+use Rattle.session.specs.Outcomes.{written}
 use Rattle.session.specs.Replying.{Wrote}
 use Rattle.shelf.specs.Feed.{replies_with, replies_on}
 use Rattle.shelf.proofs.feeding.finish.Goals as goal

@@ -1,5 +1,5 @@
 use Rattle.std.proofs.Common.{◌≡◌, ℕ, ◌+◌, ◌-◌, ◌^◌, ◌≤◌, List, Some}
-use Rattle.session.specs.State.{ChangesUpTo}
+use Rattle.view_steps.specs.Limits.{ChangesUpTo}
 use Rattle.shelf.specs.Feed.{Coming}
 use Rattle.shelf.proofs.top.run_script.Given as goal
 
