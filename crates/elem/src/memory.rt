@@ -1,7 +1,9 @@
 //! The outside in memory: inputs and a sink for tests, which fail when they are told to.
-ghost use Rattle.std.specs.Prelude.{◌≡◌, ◌+◌, ◌++◌, ◌∷◌, ◌<◌, ◌≤◌, ◌^◌, [], length, drop, map, nat_eq, position, Some, OnOk, OnErr, IfOk};
+ghost use Rattle.std.specs.Prelude.{◌≡◌, ◌+◌, ◌-◌, ◌++◌, ◌∷◌, ◌<◌, ◌≤◌, ◌^◌, min, [], length, take, drop, map, nat_eq, position, None, Some, MatchResult, OnOk, OnErr, IfOk, if◌then◌else◌};
+ghost use Rattle.std.specs.Result.{is_ok, is_err};
 ghost use Rattle.std.specs.Cmp.Lexicographic.{pointwise};
-ghost use Rattle.elem.specs.Memory.{bytes_named};
+ghost use Rattle.elem.specs.Outside.{TakesFront, Writes, Gives, Stays, IsToldEmpty, HasCause};
+ghost use Rattle.elem.specs.Memory.{bytes_named, is_listed, open_fails, opened, unopened, read_fails, next_count, after_read, unread, fits, filled, overfilled, unused};
 ghost use Rattle.elem.specs.MemoryFiles.{IsSource, source_bytes, named};
 
 use crate::{Failed, Inputs, NoMemory, Sink};
@@ -61,8 +63,7 @@ impl Model for MemInputs {
 impl MemInputs {
     /// Inputs with these bytes on standard input, and no files.
     pub fn new(alloc: Global, standard: &[u8]) -> Result<MemInputs, NoMemory>
-        ensures standard { IfOk result (λ inputs. inputs.standard ≡ standard.now) }
-        ensures files { IfOk result (λ inputs. inputs.files ≡ []) }
+        ensures { IfOk result (λ inputs. inputs ≡ unused standard.now) }
     {
         let Ok(standard) = Vec::from_slice(alloc, standard) else {
             return Err(NoMemory);
@@ -140,6 +141,16 @@ fn find_file(files: &[MemFile], path: &[u8]) -> Option<usize>
     files.iter().position(|file| file.name.as_slice() == path)
 }
 
+/// The first file of a name, where the open of this number is not to fail.
+fn find_open(files: &[MemFile], path: &[u8], failing: &[u64], number: u64) -> Option<usize>
+    ensures { result ≡ (if is_listed failing.now number then None else position (λ file. pointwise nat_eq file.name.items path.now) files.now) }
+{
+    if failing.contains(&number) {
+        return None;
+    }
+    find_file(files, path)
+}
+
 impl Inputs for MemInputs {
     ghost standard_bytes = { λ m. Some m.standard };
 
@@ -155,26 +166,62 @@ impl Inputs for MemInputs {
 
     ghost failed_path = { λ m. m.failed_path };
 
-    fn by_name(&mut self, path: &str) -> Result<(), Failed> {
+    fn by_name(&mut self, path: &str) -> Result<(), Failed>
+        requires some { 0 < length path.now }
+        requires short { length path.now ≤ 255 }
+        ensures fails { is_err result ≡ open_fails self.old path.now }
+        ensures ok { OnOk result (self.new ≡ opened self.old path.now) }
+        ensures err { OnErr result (self.new ≡ unopened self.old path.now) }
+        ensures left { OnOk result (Gives (bytes_named self.old.files path.now) (Some self.new.left) []) }
+        ensures path { MatchResult result (λ _. self.new.failed_path ≡ self.old.failed_path) (λ _. self.new.failed_path ≡ Some path.now) }
+        ensures cause { HasCause self.old.open_faults self.new.open_faults result }
+        ensures reads { self.new.read_faults ≡ self.old.read_faults }
+        ensures given { self.new.given ≡ self.old.given }
+    {
         self.opens = self.opens.saturating_add(1);
-        if let Some(file) = find_file(&self.files, path.as_bytes())
-            && !self.failing_opens.contains(&self.opens)
-        {
-            self.source = Source::File(file);
-            self.at = 0;
-            return Ok(());
-        }
-        self.open_faults = self.open_faults.saturating_add(1);
-        self.failed_path = Some(path_of(path.as_bytes()));
-        Err(Failed)
+        let Some(file) = find_open(
+            &self.files,
+            path.as_bytes(),
+            &self.failing_opens,
+            self.opens,
+        ) else {
+            self.open_faults = self.open_faults.saturating_add(1);
+            self.failed_path = Some(path_of(path.as_bytes()));
+            return Err(Failed);
+        };
+        self.source = Source::File(file);
+        self.at = 0;
+        Ok(())
     }
 
-    fn standard(&mut self) {
+    fn standard(&mut self)
+        ensures after { self.new ≡ record self.old { left = self.old.standard } }
+        ensures left { Gives (Some self.old.standard) (Some self.new.left) [] }
+        ensures path { self.new.failed_path ≡ self.old.failed_path }
+        ensures opens { self.new.open_faults ≡ self.old.open_faults }
+        ensures reads { self.new.read_faults ≡ self.old.read_faults }
+        ensures given { self.new.given ≡ self.old.given }
+    {
         self.source = Source::Standard;
         self.at = 0;
     }
 
-    fn read(&mut self, room: &mut [u8]) -> Result<usize, Failed> {
+    fn read(&mut self, room: &mut [u8]) -> Result<usize, Failed>
+        requires { 0 < length room.old }
+        ensures fails { is_err result ≡ read_fails self.old }
+        ensures count { IfOk result (λ n. n ≡ next_count self.old (length room.old)) }
+        ensures ok { IfOk result (λ n. self.new ≡ after_read self.old n) }
+        ensures err { OnErr result (self.new ≡ unread self.old) }
+        ensures bound { IfOk result (λ n. n ≤ length room.new) }
+        ensures bytes { IfOk result (λ n. Gives (Some self.old.left) (Some self.new.left) (take n room.new)) }
+        ensures end { IfOk result (λ n. n ≡ 0 → IsToldEmpty (Some self.old.left)) }
+        ensures stays { OnErr result (Stays (Some self.old.left) (Some self.new.left)) }
+        ensures given { IfOk result (λ n. self.new.given ≡ min (self.old.given + n) (2 ^ 64 - 1)) }
+        ensures withheld { OnErr result (self.new.given ≡ self.old.given) }
+        ensures cause { HasCause self.old.read_faults self.new.read_faults result }
+        ensures opens { self.new.open_faults ≡ self.old.open_faults }
+        ensures path { self.new.failed_path ≡ self.old.failed_path }
+    {
         self.reads = self.reads.saturating_add(1);
         if self.failing_reads.contains(&self.reads) {
             self.read_faults = self.read_faults.saturating_add(1);
@@ -223,14 +270,14 @@ pub struct MemSink {
 }
 
 impl Model for MemSink {
-    ghost use Rattle.std.specs.Prelude.{length, ◌≤◌};
+    ghost use Rattle.std.specs.Prelude.{length, ◌≤◌, vec_capacity};
     ghost use Rattle.elem.specs.Memory.{Filled};
 
     ghost Value = { Filled };
 
     ghost view = { λ s. record { taken = s.bytes.items; room = s.room; faults = s.faults } };
 
-    ghost invariant = { λ s. length s.bytes.items ≤ s.room };
+    ghost invariant = { λ s. (length s.bytes.items ≤ s.room) × (s.room ≤ vec_capacity s.bytes) };
 }
 
 impl MemSink {
@@ -261,7 +308,13 @@ impl Sink for MemSink {
 
     ghost faults = { λ s. s.faults };
 
-    fn put(&mut self, piece: &[u8]) -> Result<(), Failed> {
+    fn put(&mut self, piece: &[u8]) -> Result<(), Failed>
+        ensures whole { is_ok result ≡ fits self.old piece.now }
+        ensures ok { OnOk result (self.new ≡ filled self.old piece.now) }
+        ensures err { OnErr result (self.new ≡ overfilled self.old piece.now) }
+        ensures text { Writes (Some self.old.taken) (Some self.new.taken) piece.now result }
+        ensures cause { HasCause self.old.faults self.new.faults result }
+    {
         let count = piece.len().min(self.room - self.bytes.len());
         let kept = self.bytes.extend_from_slice(&piece[..count]);
         if kept.is_ok() && count == piece.len() {

@@ -34,7 +34,7 @@ pub trait Inputs {
         requires some { 0 < length path.now }
         requires short { length path.now ≤ 255 }
         ensures left { OnOk result (Gives (file_bytes self.old path.now) (left self.new) []) }
-        ensures path { OnErr result (failed_path self.new ≡ Some path.now) }
+        ensures path { MatchResult result (λ _. failed_path self.new ≡ failed_path self.old) (λ _. failed_path self.new ≡ Some path.now) }
         ensures cause { HasCause (open_faults self.old) (open_faults self.new) result }
         ensures reads { read_faults self.new ≡ read_faults self.old }
         ensures given { given self.new ≡ given self.old };
