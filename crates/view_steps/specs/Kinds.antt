@@ -1,13 +1,26 @@
 -- The kinds of base: their names, their shapes and their orders.
-use Rattle.std.specs.Prelude.{ℕ, true, false, nat_eq, List, [], ◌∷◌, Option, None, Some, if◌then◌else◌, map}
+use Rattle.std.specs.Prelude.{ℕ, true, false, nat_eq, List, [], ◌∷◌, Option, None, Some, if◌then◌else◌, codes}
 use Rattle.std.specs.Cmp.Lexicographic.{pointwise}
 use Rattle.view_steps.specs.declared.kinds.Kind.{Kind}
 use Rattle.view_steps.specs.declared.kinds.Kind.TheVariants.{ArrayList, LinkedHashSet, TreeSet, TreeSetReverse, TreeSetLength, LinkedHashMap, TreeMap, TreeMapReverse, TreeMapLength}
-use Rattle.view_steps.specs.declared.kinds.TheConstants.{KINDS}
 use Rattle.view_steps.specs.declared.orders.Order.{Order}
 use Rattle.view_steps.specs.declared.orders.Order.TheVariants as order
 use Rattle.view_steps.specs.declared.shapes.Shape.{Shape}
 use Rattle.view_steps.specs.declared.shapes.Shape.TheVariants as shape
+
+-- the kinds by the words that stand behind `new`
+abbrev pub kind_names : List (List ℕ × Kind)
+kind_names =
+    (codes "ArrayList", ArrayList)
+    ∷ (codes "LinkedHashSet", LinkedHashSet)
+    ∷ (codes "TreeSet", TreeSet)
+    ∷ (codes "TreeSetReverse", TreeSetReverse)
+    ∷ (codes "TreeSetLength", TreeSetLength)
+    ∷ (codes "LinkedHashMap", LinkedHashMap)
+    ∷ (codes "TreeMap", TreeMap)
+    ∷ (codes "TreeMapReverse", TreeMapReverse)
+    ∷ (codes "TreeMapLength", TreeMapLength)
+    ∷ []
 
 -- the kind in the first row with this word
 unfoldable pub chosen : List ℕ → List (List ℕ × Kind) → Option Kind
@@ -16,7 +29,7 @@ chosen word (row ∷ rows) = if pointwise nat_eq row.0 word then Some row.1 else
 
 -- the kind that a word names
 abbrev pub kind_named : List ℕ → Option Kind
-kind_named word = chosen word (map (λ row. (row.0.now, row.1)) KINDS)
+kind_named word = chosen word kind_names
 
 -- the shape of a base of a kind
 abbrev pub shape_of_kind : Kind → Shape
