@@ -1,6 +1,6 @@
 -- What a view shows after one row came or went.
 use Rattle.std.proofs.Common.{◌≡◌, List, [], ◌∷◌, ◌++◌, map, reverse, refl, ap, sym, ◌∙◌, Bool, true, false, cond, ◌&&◌}
-use Rattle.std.specs.Prelude.{filter, Some}
+use Rattle.std.specs.Prelude.{filter, not, Some, if◌then◌else◌}
 use Rattle.std.proofs.lemmas.List.{reverse-append, map-append, append_assoc}
 use Rattle.std.proofs.lemmas.List.Elements.{filter-append}
 use Rattle.std.proofs.lemmas.Option.{same_Some, cond_some, option_and_then_some}
@@ -13,7 +13,7 @@ use Rattle.view_steps.specs.declared.steps.Flags.{Flags}
 use Rattle.view_steps.specs.declared.shapes.Shape.{Shape}
 use Rattle.view_steps.specs.Lanes.{turned_if}
 use Rattle.view_steps.specs.Steps.{family_of, item_of, passes, lifted, flags_after}
-use Rattle.view_steps.specs.Views.{World, View, base, over, lift, flags_at, shape_at}
+use Rattle.view_steps.specs.Views.{World, View, base, over, lift, flags_at, shape_at, turned, turns}
 use Rattle.view_steps.specs.RowForm.{RowForm, form_over, form_of, found_row_by, shows, shown_by, IsShownAs, one_more, ShownAround, FoundAround}
 
 -- ---- adding
@@ -83,17 +83,34 @@ turned_more : (t : Bool) (is : List Item) (i : Item) → turned_if t (is ++ i �
 turned_more true is i = reverse-append is (i ∷ [])
 turned_more false is i = refl
 
+over_turned : (it : Step) (f : RowForm) → (form_over (family_of it) it f).turned ≡ (if turns it then not f.turned else f.turned)
+over_turned (step.Plain Reverse) f = refl
+over_turned (step.Plain KeySet) f = refl
+over_turned (step.Plain Values) f = refl
+over_turned (step.Plain EntrySet) f = refl
+over_turned (step.Plain Descending) f = refl
+over_turned (step.Plain Unmodifiable) f = refl
+over_turned (step.Filter word p) f = refl
+over_turned (step.FilterPairs q) f = refl
+over_turned (step.Change word g) f = refl
+over_turned (step.Within order w) f = refl
+
+-- a form is turned where its view is
+form_turned : (v : View) → (form_of v).turned ≡ turned v
+form_turned (base b) = refl
+form_turned (over it v) = over_turned it (form_of v) ∙ ap (λ t. if turns it then not t else t) (form_turned v)
+
 shown_one : (f : RowForm) (row item : Item) → IsShownAs f row item → shows f row ≡ true
 shown_one f row item s = rw (s.taken, s.seen) refl
 
 pub add_law : (world : World) (v : View) (item row : Item) (rows : List Item) → (flags_at world v).add ≡ true → lift v item ≡ Some row
-    → shown_by (form_of v) (rows ++ row ∷ []) ≡ one_more (form_of v).turned (shown_by (form_of v) rows) item
+    → shown_by (form_of v) (rows ++ row ∷ []) ≡ one_more (turned v) (shown_by (form_of v) rows) item
 add_law world v item row rows ok is =
     let f : RowForm = form_of v in
     let s : IsShownAs f row item = lift_law world v item row ok is in
     let more : items f (rows ++ row ∷ []) ≡ items f rows ++ item ∷ [] =
     items-append f rows (row ∷ []) ∙ ap (λ is. items f rows ++ is) (items-shown f row [] (shown_one f row item s) ∙ ap (λ k. k ∷ []) s.same) in
-    ap (turned_if f.turned) more ∙ turned_more f.turned (items f rows) item
+    ap (turned_if f.turned) more ∙ turned_more f.turned (items f rows) item ∙ ap (λ t. one_more t (shown_by f rows) item) (form_turned v)
 
 -- two lists, one behind the other, turned round or not; and with an element between them
 abbrev front : {X : Type 0} → Bool → List X → List X → List X

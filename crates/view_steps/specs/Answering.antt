@@ -1,5 +1,5 @@
 -- A call on a view: its refusal, or its answer and what it leaves of the bases.
-use Rattle.std.specs.Prelude.{ℕ, Bool, true, false, not, ◌&&◌, nat_lt, nat_le, if◌then◌else◌, List, [], ◌∷◌, ◌++◌, length, filter, flat_map, find, slice_get, Option, None, Some, is_some, Result, Ok, Err}
+use Rattle.std.specs.Prelude.{ℕ, Bool, true, not, ◌&&◌, nat_lt, nat_le, if◌then◌else◌, List, [], ◌∷◌, length, filter, flat_map, find, slice_get, Option, None, Some, is_some, Result, Ok, Err}
 use Rattle.std.specs.List.{list_all}
 use Rattle.std.specs.Option.{option_to_list}
 use Rattle.view_steps.specs.declared.answers.Answer.{Answer}
@@ -29,10 +29,9 @@ use Rattle.view_steps.specs.Items.{same_item}
 use Rattle.view_steps.specs.KeptSteps.{first_refusal}
 use Rattle.view_steps.specs.Kinds.{shape_of_kind}
 use Rattle.view_steps.specs.Limits.{rows_in, most_rows}
-use Rattle.view_steps.specs.RowForm.{form_of}
 use Rattle.view_steps.specs.Shapes.{is_keyed}
 use Rattle.view_steps.specs.Steps.{lacks}
-use Rattle.view_steps.specs.Views.{World, View, Candidate, base_at, base_under, candidates, flags_at, is_seen, lift, shape_at, shown}
+use Rattle.view_steps.specs.Views.{World, View, Candidate, base_at, base_under, candidates, flags_at, is_seen, lift, shape_at, shown, turned}
 
 -- ---- refusals, in their order: a missing flag, the argument, an item that cannot be lifted
 
@@ -114,7 +113,7 @@ abbrev pub end_spot : Kind → Bool → Spot
 end_spot kind turned = if not (is_keyed (shape_of_kind kind)) && turned then Before 0 else Own
 
 abbrev pub end_of_view : World → View → Spot
-end_of_view world v = end_spot (base_at world (base_under v)).kind (form_of v).turned
+end_of_view world v = end_spot (base_at world (base_under v)).kind (turned v)
 
 abbrev pub size_under : World → View → ℕ
 size_under world v = length (base_at world (base_under v)).rows

@@ -8,7 +8,7 @@ use Rattle.view_steps.specs.declared.step_table.Family.TheVariants.{Same, Change
 use Rattle.view_steps.specs.Lanes.{turned_if}
 use Rattle.view_steps.specs.Places.{found_in, found_over}
 use Rattle.view_steps.specs.Steps.{family_of, item_of, passes}
-use Rattle.view_steps.specs.Views.{World, View, base, over, base_at, base_under, Candidate, candidates, changed, hidden, cut, of_rows, shown, lift, flags_at}
+use Rattle.view_steps.specs.Views.{World, View, base, over, base_at, base_under, Candidate, candidates, changed, hidden, cut, of_rows, shown, lift, flags_at, turned}
 
 -- whether a row is a candidate, whether it is seen, its item, and whether the walk is turned round
 pub record RowForm : Type 0 where
@@ -82,7 +82,7 @@ one_more turned items item = if turned then item ∷ items else items ++ item �
 -- what such a view shows once the row stands behind the others
 abbrev pub AddLaw : Type 0
 AddLaw = (world : World) (v : View) (item row : Item) (rows : List Item) → (flags_at world v).add ≡ true → lift v item ≡ Some row
-    → shown_by (form_of v) (rows ++ row ∷ []) ≡ one_more (form_of v).turned (shown_by (form_of v) rows) item
+    → shown_by (form_of v) (rows ++ row ∷ []) ≡ one_more (turned v) (shown_by (form_of v) rows) item
 
 -- ---- one row among others
 

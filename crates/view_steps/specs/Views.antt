@@ -1,5 +1,5 @@
 -- What a view shows: its candidates, computed anew from the rows of its base. One list function for each family.
-use Rattle.std.specs.Prelude.{ℕ, ◌+◌, Bool, true, false, not, ◌&&◌, List, [], ◌∷◌, map, filter, reverse, get_or, Option, Some, option_and_then}
+use Rattle.std.specs.Prelude.{ℕ, ◌+◌, Bool, true, false, not, ◌&&◌, List, [], ◌∷◌, map, filter, reverse, get_or, if◌then◌else◌, Option, Some, option_and_then}
 use Rattle.std.specs.Option.{unwrap_or}
 use Rattle.view_steps.specs.declared.items.Item.{Item}
 use Rattle.view_steps.specs.declared.kinds.Kind.{Kind}
@@ -8,12 +8,15 @@ use Rattle.view_steps.specs.declared.shapes.Shape.{Shape}
 use Rattle.view_steps.specs.declared.step_table.Family.{Family}
 use Rattle.view_steps.specs.declared.step_table.Family.TheVariants.{Same, Changed, Turned, Hidden, Cut}
 use Rattle.view_steps.specs.declared.steps.Flags.{Flags}
+use Rattle.view_steps.specs.declared.steps.PlainStep.TheVariants.{Reverse, Descending}
 use Rattle.view_steps.specs.declared.steps.Step.{Step}
+use Rattle.view_steps.specs.declared.steps.Step.TheVariants as steps
 use Rattle.view_steps.specs.Kinds.{shape_of_kind}
 use Rattle.view_steps.specs.Steps as table
 use Rattle.view_steps.specs.Steps.{family_of, item_of, passes}
 
--- a base: its kind, its rows in order, how often a row was added or removed, and whether it is frozen
+-- a base: its kind, its rows in order, its change number, which rises by one in each call that
+-- adds or removes rows, and whether it is frozen
 pub record Base : Type 0 where
   pub kind : Kind
   pub rows : List Item
@@ -117,3 +120,14 @@ flags_at world (over step v) = table.flags_after (shape_at world v) step (flags_
 abbrev pub lift : View → Item → Option Item
 lift (base b) item = Some item
 lift (over step v) item = option_and_then (lift v) (table.lifted step item)
+
+-- whether a step shows the items of the view below it in the opposite order
+abbrev pub turns : Step → Bool
+turns (steps.Plain Reverse) = true
+turns (steps.Plain Descending) = true
+turns it = false
+
+-- whether a view shows its items in the opposite order of the rows of its base
+abbrev pub turned : View → Bool
+turned (base b) = false
+turned (over it v) = if turns it then not (turned v) else turned v

@@ -4,9 +4,8 @@ ghost use Rattle.base_store.specs.BaseRows.{IsFree, IsSpotIn};
 ghost use Rattle.base_store.specs.Stored.{view_in};
 ghost use Rattle.view_steps.specs.Answering.{end_of_view};
 ghost use Rattle.view_steps.specs.Kinds.{shape_of_kind};
-ghost use Rattle.view_steps.specs.RowForm.{form_of};
 ghost use Rattle.view_steps.specs.Shapes.{is_keyed};
-ghost use Rattle.view_steps.specs.Views.{base_at, base_under};
+ghost use Rattle.view_steps.specs.Views.{base_at, base_under, turned};
 
 use base_store::{AnyRef, Node, Store};
 use view_steps::{Kind, Spot, flipped};
@@ -14,7 +13,7 @@ use view_steps::{Kind, Spot, flipped};
 /// Whether a view is walked from the back of its base.
 fn is_turned(store: &Store, n: AnyRef) -> bool
     requires { n < length store.now.nodes }
-    ensures { result ≡ (form_of (view_in store.now n)).turned }
+    ensures { result ≡ turned (view_in store.now n) }
 {
     match store.node(n) {
         Node::Base(_) => false,
