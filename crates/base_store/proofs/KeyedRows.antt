@@ -1,6 +1,6 @@
 -- The rows of a set or a map, by their keys.
-use Rattle.std.proofs.Common.{◌≡◌, ℕ, Bool, true, false, cond, List, [], ◌∷◌, map, refl, ap, sym, ◌∙◌, subst}
-use Rattle.std.specs.Prelude.{find, slice_get, Some, option_map}
+use Rattle.std.proofs.Common.{◌≡◌, ℕ, Bool, true, false, not, cond, List, [], ◌∷◌, length, map, Option, Result, Ok, Err, refl, ap, sym, ◌∙◌, subst}
+use Rattle.std.specs.Prelude.{find, is_some, slice_get, None, Some, option_map, OnErr}
 use Rattle.std.specs.List.{IsDistinct}
 use Rattle.std.proofs.lemmas.Simd.{map-map}
 use Rattle.elem.specs.declared.elements.Elem.{Elem}
@@ -9,8 +9,12 @@ use Rattle.elem.specs.ElementLaws.{same-Decides}
 use Rattle.elem.specs.Keyed.{value_at}
 use Rattle.base_store.specs.declared.base_rows.BaseRows.{BaseRows}
 use Rattle.base_store.specs.declared.base_rows.BaseRows.TheVariants as types
-use Rattle.base_store.specs.BaseRows.{kind_of, plain, rows_of, items, entry_of, member_of}
+use Rattle.base_store.specs.Adding.{is_one_more}
+use Rattle.base_store.specs.BaseRows.{kind_of, plain, rows_of, items, entry_of, member_of, IsSpotIn}
 use Rattle.base_store.specs.KeyLines.{keys_in}
+use Rattle.view_steps.specs.declared.edits.Spot.{Spot}
+use Rattle.view_steps.specs.declared.edits.Spot.TheVariants.{Own, Before, Instead}
+use Rattle.view_steps.specs.declared.items.Item.{Item}
 use Rattle.view_steps.specs.declared.items.Item.TheVariants.{One, Entry}
 use Rattle.view_steps.specs.declared.places.Place.{Place}
 use Rattle.view_steps.specs.declared.places.Place.TheVariants.{Index, Key}
@@ -75,6 +79,34 @@ entry_found (r ∷ rs) k = by (same k r.0) refl (entry_found rs k)
         → cond b (Some (entry_of r)) (find (λ row. same k (key_of row)) (map entry_of rs)) ≡ option_map (Entry k) (cond b (Some r.1) (value_at rs k))
     by true e ih = ap (λ l. Some (Entry l r.1)) (sym ((same-Decides k r.0).0 e))
     by false e ih = ih
+
+-- ---- a row whose key is not there is one more
+
+-- the items of rows of keys and values, among which a key is found by its value
+abbrev IsFoundBy : {V : Type 0} → (Elem → V → Item) → List Item → List (Elem × V) → Type 0
+IsFoundBy row_of items rows = (k : Elem) → find (λ row. same k (key_of row)) items ≡ option_map (row_of k) (value_at rows k)
+
+one_more : {V : Type 0} (row_of : Elem → V → Item) (rows : List (Elem × V)) (self : BaseRows) (spot : Spot) (item : Item) → IsFoundBy row_of (rows_of self) rows → is_keyed (shape_of_kind (kind_of self)) ≡ true → IsSpotIn (kind_of self) (length (rows_of self)) spot
+    → value_at rows (key_of item) ≡ None → is_one_more (kind_of self) spot (rows_of self) item ≡ true
+one_more row_of rows self Own item found keyed is none =
+    ap (λ (b : Bool). cond b (not (is_some (find (λ row. same (key_of item) (key_of row)) (rows_of self)))) true) keyed
+    ∙ ap (λ (x : Option Item). not (is_some x)) (found (key_of item)) ∙ ap (λ x. not (is_some (option_map (row_of (key_of item)) x))) none
+one_more row_of rows self (Before i) item found keyed is none = let f = is.0 in absurd (cc)
+one_more row_of rows self (Instead i) item found keyed is none = let f = is.0 in absurd (cc)
+
+-- so a row for which a set or a map had no memory is one more
+wants : {V E : Type 0} (row_of : Elem → V → Item) (rows : List (Elem × V)) (self : BaseRows) (spot : Spot) (item : Item) (r : Result (Unit {0}) E) → IsFoundBy row_of (rows_of self) rows → is_keyed (shape_of_kind (kind_of self)) ≡ true
+    → IsSpotIn (kind_of self) (length (rows_of self)) spot → OnErr r (value_at rows (key_of item) ≡ None) → OnErr r (is_one_more (kind_of self) spot (rows_of self) item ≡ true)
+wants row_of rows self spot item (Ok u) found keyed is none = tt
+wants row_of rows self spot item (Err why) found keyed is none = one_more row_of rows self spot item found keyed is none
+
+pub set_wants : {E : Type 0} (rows : List (Elem × Unit {0})) (self : BaseRows) (spot : Spot) (item : Item) (r : Result (Unit {0}) E) → rows_of self ≡ map member_of rows → is_keyed (shape_of_kind (kind_of self)) ≡ true → IsSpotIn (kind_of self) (length (rows_of self)) spot
+    → OnErr r (value_at rows (key_of item) ≡ None) → OnErr r (is_one_more (kind_of self) spot (rows_of self) item ≡ true)
+set_wants rows self spot item r are keyed is none = wants (λ k u. One k) rows self spot item r (λ k. ap (find (λ row. same k (key_of row))) are ∙ member_found rows k) keyed is none
+
+pub map_wants : {E : Type 0} (rows : List (Elem × Elem)) (self : BaseRows) (spot : Spot) (item : Item) (r : Result (Unit {0}) E) → rows_of self ≡ map entry_of rows → is_keyed (shape_of_kind (kind_of self)) ≡ true → IsSpotIn (kind_of self) (length (rows_of self)) spot
+    → OnErr r (value_at rows (key_of item) ≡ None) → OnErr r (is_one_more (kind_of self) spot (rows_of self) item ≡ true)
+map_wants rows self spot item r are keyed is none = wants Entry rows self spot item r (λ k. ap (find (λ row. same k (key_of row))) are ∙ entry_found rows k) keyed is none
 
 -- ---- places of a list, and of a set or a map
 

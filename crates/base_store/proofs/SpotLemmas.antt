@@ -1,5 +1,5 @@
 -- How many rows there are once rows came at a spot.
-use Rattle.std.proofs.Common.{◌≡◌, ℕ, ◌+◌, ◌<◌, ◌≤◌, Bool, true, false, cond, ◌&&◌, not, List, [], ◌∷◌, length, refl, ap, subst, arith}
+use Rattle.std.proofs.Common.{◌≡◌, ℕ, ◌+◌, ◌<◌, ◌≤◌, Bool, true, false, cond, ◌&&◌, not, List, [], ◌∷◌, length, refl, ap, ◌∙◌, subst, arith}
 use Rattle.std.specs.Prelude.{find, nat_eq, is_some}
 use Rattle.std.proofs.lemmas.Bool.Decides.{nat_tests}
 use Rattle.std.proofs.lemmas.List.{length-set}
@@ -14,7 +14,7 @@ use Rattle.view_steps.specs.Items.{key_of}
 use Rattle.view_steps.specs.Kinds.{shape_of_kind}
 use Rattle.view_steps.specs.Places.{HasKeys}
 use Rattle.view_steps.specs.Shapes.{is_keyed}
-use Rattle.view_steps.specs.Limits.{rows_in, most_rows}
+use Rattle.view_steps.specs.Limits.{rows_in, most_rows, Grows}
 use Rattle.view_steps.specs.Views.{Base, World, base_at}
 use Rattle.base_store.specs.Adding.{is_one_more}
 use Rattle.base_store.specs.BaseRows.{IsSpotIn}
@@ -112,3 +112,20 @@ row_too_many world b spot new lt is full =
     let same_rows : (edited it (adding spot (new ∷ []))).rows ≡ placed_at it.kind spot it.rows new = ap (λ (x : Base). x.rows) (edited_adding it spot (new ∷ [])) in
     let parts = both (nat_eq (rows_in world) most_rows) (is_one_more it.kind spot it.rows new) full in
     omega (arith, rows_in-written world b (edited it (adding spot (new ∷ []))) lt, ap length same_rows, one_more_count it.kind spot it.rows new is parts.1, at_most (rows_in world) parts.0)
+
+-- where it is not full for a row that is one more, the rows grow
+pub row_grows : (world : World) (b : ℕ) (spot : Spot) (new : Item) → b < length world → IsSpotIn (base_at world b).kind (length (base_at world b).rows) spot → rows_in world ≤ most_rows → is_full_for (rows_in world) (base_at world b) spot new ≡ false
+    → is_one_more (base_at world b).kind spot (base_at world b).rows new ≡ true → Grows world (world_after world b (adding spot (new ∷ [])))
+row_grows world b spot new lt is few free more =
+    let it : Base = base_at world b in
+    let same_rows : (edited it (adding spot (new ∷ []))).rows ≡ placed_at it.kind spot it.rows new = ap (λ (x : Base). x.rows) (edited_adding it spot (new ∷ [])) in
+    let one : length (edited it (adding spot (new ∷ []))).rows ≡ length it.rows + 1 = ap length same_rows ∙ one_more_count it.kind spot it.rows new is more in
+    let room : rows_in world ≡ most_rows → ⊥ = not_at_most (rows_in world) (not_full (nat_eq (rows_in world) most_rows) (is_one_more it.kind spot it.rows new) more free) in (
+      omega (arith, rows_in-written world b (edited it (adding spot (new ∷ []))) lt, one),
+      omega (arith, rows_in-written world b (edited it (adding spot (new ∷ []))) lt, one, few, room),
+    )
+  where
+    not_full : (full more : Bool) → more ≡ true → (full && more) ≡ false → full ≡ false
+    not_full true true e h = h
+    not_full true false e h = absurd (cc)
+    not_full false more e h = refl

@@ -17,7 +17,7 @@ over_limit answer world b = cond b (Err Limit) (Ok (answer, world))
 too_many : (answer : Answer) (world : World) → most_rows < rows_in world → within_rows answer world ≡ Err Limit
 too_many answer world h = let e : nat_lt most_rows (rows_in world) ≡ true = grind (arith, nat_tests) in ap (over_limit answer world) e
 
-few_enough : (answer : Answer) (world : World) → rows_in world ≤ most_rows → within_rows answer world ≡ Ok (answer, world)
+pub few_enough : (answer : Answer) (world : World) → rows_in world ≤ most_rows → within_rows answer world ≡ Ok (answer, world)
 few_enough answer world h = let e : nat_lt most_rows (rows_in world) ≡ false = grind (arith, nat_tests) in ap (over_limit answer world) e
 
 -- what was left is a store with these bases, which have no more rows than there may be

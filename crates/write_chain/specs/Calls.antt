@@ -1,13 +1,7 @@
 -- What a call leaves.
-use Rattle.std.specs.Prelude.{◌≡◌, Bool, true, false, ℕ, List, Result, Ok, Err, Some}
+use Rattle.std.specs.Prelude.{◌≡◌, ℕ, List, Result, Ok, Err, Some}
 use Rattle.base_store.specs.Stored.{Stored, with_world}
 use Rattle.view_steps.specs.declared.answers.Answer.{Answer}
-use Rattle.view_steps.specs.declared.calls.Call.{Call}
-use Rattle.view_steps.specs.declared.calls.Call.TheVariants as call
-use Rattle.view_steps.specs.declared.calls.OnElement.TheVariants.{Add}
-use Rattle.view_steps.specs.declared.calls.OnOther.{OnOther}
-use Rattle.view_steps.specs.declared.calls.OnOther.TheVariants.{ContainsAll}
-use Rattle.view_steps.specs.declared.calls.OnPair.TheVariants.{Put}
 use Rattle.view_steps.specs.declared.edits.Spot.{Spot}
 use Rattle.view_steps.specs.declared.items.Item.{Item}
 use Rattle.view_steps.specs.declared.refusals.Refusal.{Refusal}
@@ -20,17 +14,6 @@ use Rattle.view_steps.specs.Views.{World, View, base_under}
 abbrev pub IsRefused : Refusal → Answered → Type 0
 IsRefused NoMemory outcome = Unit {0}
 IsRefused why outcome = outcome ≡ Err why
-
--- whether a call may want memory: one that adds an item or puts one in the place of another
-abbrev pub wants_memory : Call → Bool
-wants_memory (call.Element Add x) = true
-wants_memory (call.Indexed word i x) = true
-wants_memory (call.Pair Put k w) = true
-wants_memory other = false
-
-abbrev pub wants_memory_with : OnOther → Bool
-wants_memory_with ContainsAll = false
-wants_memory_with word = true
 
 -- the answer and the bases that were defined, or the refusal, or want of memory
 abbrev pub Came : Result Answer Refusal → Stored → Stored → Answered → Type 0

@@ -1,10 +1,12 @@
 //! Adding items to a view that allows it.
-ghost use Rattle.std.specs.Prelude.{◌≡◌, ◌<◌, ◌^◌, ◌∷◌, [], length, true};
+ghost use Rattle.std.specs.Prelude.{◌≡◌, ◌<◌, ◌^◌, ◌-◌, ◌∷◌, [], length, true, Err};
 ghost use Rattle.base_store.specs.BaseRows.{AreRowsOf, IsFree, IsRowOf, IsSpotIn};
 ghost use Rattle.base_store.specs.Stored.{view_in};
 ghost use Rattle.view_steps.specs.Limits.{ChangesUpTo};
+ghost use Rattle.view_steps.specs.Memory.{adds_rows};
 ghost use Rattle.view_steps.specs.Views.{base_at, base_under};
 ghost use Rattle.write_chain.specs.Calls.{Came, added};
+ghost use Rattle.view_steps.specs.declared.refusals.Refusal.TheVariants.{NoMemory};
 
 use crate::lifting::{all_lift, lifts};
 use base_store::{AnyRef, Store};
@@ -25,7 +27,8 @@ pub(crate) fn add_one<L: Ledger>(
     requires fits { IsRowOf (base_at store.old.world (base_under (view_in store.old n))).kind item.now }
     requires spot { IsSpotIn (base_at store.old.world (base_under (view_in store.old n))).kind (length (base_at store.old.world (base_under (view_in store.old n))).rows) spot }
     requires change { ChangesUpTo (2 ^ 62) store.old.world }
-    ensures { Came result store.old store.new (added store.old.world (view_in store.old n) (item.now ∷ []) spot answer) }
+    ensures came { Came result store.old store.new (added store.old.world (view_in store.old n) (item.now ∷ []) spot answer) }
+    ensures memory { result ≡ Err NoMemory → adds_rows store.old.world (added store.old.world (view_in store.old n) (item.now ∷ []) spot answer) ≡ true }
 {
     if !lifts(store, n, item) {
         return Err(Refusal::IllegalArgument);

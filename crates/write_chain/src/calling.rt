@@ -1,5 +1,5 @@
 //! The calls on views.
-ghost use Rattle.std.specs.Prelude.{◌≡◌, ◌<◌, ◌≤◌, ◌+◌, ◌^◌, ℕ, false, length, true, ◌≢◌, Err};
+ghost use Rattle.std.specs.Prelude.{◌≡◌, ◌<◌, ◌≤◌, ◌+◌, ◌^◌, ◌-◌, ℕ, false, length, true, Err};
 ghost use Rattle.base_store.specs.Stored.{view_in};
 ghost use Rattle.view_steps.specs.Answering.{answered, answered_with};
 ghost use Rattle.view_steps.specs.Calls as spec;
@@ -9,7 +9,8 @@ ghost use Rattle.view_steps.specs.Steps as table;
 ghost use Rattle.view_steps.specs.Views.{flags_at, shape_at};
 ghost use Rattle.view_steps.specs.declared.calls.Call.TheVariants as calls;
 ghost use Rattle.view_steps.specs.declared.refusals.Refusal.TheVariants.{NoMemory};
-ghost use Rattle.write_chain.specs.Calls.{Came, wants_memory, wants_memory_with};
+ghost use Rattle.write_chain.specs.Calls.{Came};
+ghost use Rattle.view_steps.specs.Memory.{adds_rows, wants_memory_with};
 
 use crate::clearing::clear;
 use crate::others::{add_all, put_all, remove_others};
@@ -30,7 +31,7 @@ use view_steps::{
 ///
 /// The refusal of the call, in this order: `UnsupportedOperation` where the view does not allow it, the refusal of its
 /// argument, `IllegalArgument` where an item that is added does not pass, and `Limit` where there would be too many
-/// rows; or `NoMemory`. Nothing has changed then.
+/// rows; or `NoMemory`, where it would leave more rows than there were. Nothing has changed then.
 pub fn call<L: Ledger>(
     store: &mut Store,
     n: AnyRef,
@@ -41,7 +42,7 @@ pub fn call<L: Ledger>(
     requires fits { spec.fits (shape_at store.old.world (view_in store.old n)) call.now ≡ true }
     requires change { ChangesUpTo (2 ^ 62) store.old.world }
     ensures came { Came result store.old store.new (answered store.old.world (view_in store.old n) call.now) }
-    ensures memory { wants_memory call.now ≡ false → result ≢ Err NoMemory }
+    ensures memory { result ≡ Err NoMemory → adds_rows store.old.world (answered store.old.world (view_in store.old n) call.now) ≡ true }
     ensures changes { (most : ℕ) → ChangesUpTo most store.old.world → ChangesUpTo (most + 1) store.new.world }
 {
     let flags = store.flags_of(n);
@@ -63,7 +64,7 @@ fn carry_out<L: Ledger>(
     requires allowed { table.lacks (flags_at store.old.world (view_in store.old n)) (spec.needs_of call.now) ≡ false }
     requires change { ChangesUpTo (2 ^ 62) store.old.world }
     ensures came { Came result store.old store.new (answered store.old.world (view_in store.old n) call.now) }
-    ensures memory { wants_memory call.now ≡ false → result ≢ Err NoMemory }
+    ensures memory { result ≡ Err NoMemory → adds_rows store.old.world (answered store.old.world (view_in store.old n) call.now) ≡ true }
 {
     match call {
         Call::Ask(word) => on_ask(store, n, *word, steps),
@@ -85,7 +86,7 @@ fn on_ask<L: Ledger>(
     requires allowed { table.lacks (flags_at store.old.world (view_in store.old n)) (spec.needs_of (calls.Ask word)) ≡ false }
     requires change { ChangesUpTo (2 ^ 62) store.old.world }
     ensures came { Came result store.old store.new (answered store.old.world (view_in store.old n) (calls.Ask word)) }
-    ensures memory { wants_memory (calls.Ask word) ≡ false → result ≢ Err NoMemory }
+    ensures memory { result ≡ Err NoMemory → adds_rows store.old.world (answered store.old.world (view_in store.old n) (calls.Ask word)) ≡ true }
 {
     match word {
         Ask::Clear => Ok(clear(store, n, steps)),
@@ -105,7 +106,7 @@ fn on_element<L: Ledger>(
     requires allowed { table.lacks (flags_at store.old.world (view_in store.old n)) (spec.needs_of (calls.Element word x.now)) ≡ false }
     requires change { ChangesUpTo (2 ^ 62) store.old.world }
     ensures came { Came result store.old store.new (answered store.old.world (view_in store.old n) (calls.Element word x.now)) }
-    ensures memory { wants_memory (calls.Element word x.now) ≡ false → result ≢ Err NoMemory }
+    ensures memory { result ≡ Err NoMemory → adds_rows store.old.world (answered store.old.world (view_in store.old n) (calls.Element word x.now)) ≡ true }
 {
     match word {
         OnElement::Add => add(store, n, x, steps),
@@ -127,7 +128,7 @@ fn on_index<L: Ledger>(
     requires allowed { table.lacks (flags_at store.old.world (view_in store.old n)) (spec.needs_of (calls.Index word i)) ≡ false }
     requires change { ChangesUpTo (2 ^ 62) store.old.world }
     ensures came { Came result store.old store.new (answered store.old.world (view_in store.old n) (calls.Index word i)) }
-    ensures memory { wants_memory (calls.Index word i) ≡ false → result ≢ Err NoMemory }
+    ensures memory { result ≡ Err NoMemory → adds_rows store.old.world (answered store.old.world (view_in store.old n) (calls.Index word i)) ≡ true }
 {
     match word {
         OnIndex::ItemAt => read(store, n, &Call::Index(word, i), steps),
@@ -147,7 +148,8 @@ fn on_indexed<L: Ledger>(
     requires fits { is_list (shape_at store.old.world (view_in store.old n)) ≡ true }
     requires allowed { table.lacks (flags_at store.old.world (view_in store.old n)) (spec.needs_of (calls.Indexed word i x.now)) ≡ false }
     requires change { ChangesUpTo (2 ^ 62) store.old.world }
-    ensures { Came result store.old store.new (answered store.old.world (view_in store.old n) (calls.Indexed word i x.now)) }
+    ensures came { Came result store.old store.new (answered store.old.world (view_in store.old n) (calls.Indexed word i x.now)) }
+    ensures memory { result ≡ Err NoMemory → adds_rows store.old.world (answered store.old.world (view_in store.old n) (calls.Indexed word i x.now)) ≡ true }
 {
     match word {
         OnIndexed::AddAt => add_at(store, n, i, x, steps),
@@ -168,7 +170,7 @@ fn on_pair<L: Ledger>(
     requires allowed { table.lacks (flags_at store.old.world (view_in store.old n)) (spec.needs_of (calls.Pair word k.now w.now)) ≡ false }
     requires change { ChangesUpTo (2 ^ 62) store.old.world }
     ensures came { Came result store.old store.new (answered store.old.world (view_in store.old n) (calls.Pair word k.now w.now)) }
-    ensures memory { wants_memory (calls.Pair word k.now w.now) ≡ false → result ≢ Err NoMemory }
+    ensures memory { result ≡ Err NoMemory → adds_rows store.old.world (answered store.old.world (view_in store.old n) (calls.Pair word k.now w.now)) ≡ true }
 {
     match word {
         OnPair::Put => put(store, n, k, w, steps),
@@ -181,7 +183,7 @@ fn on_pair<L: Ledger>(
 ///
 /// # Errors
 ///
-/// As `call`.
+/// As `call`, but for `NoMemory`: it reads the other view into memory before it adds or removes.
 pub fn call_with<L: Ledger>(
     store: &mut Store,
     n: AnyRef,
@@ -194,7 +196,7 @@ pub fn call_with<L: Ledger>(
     requires fits { spec.fits_with (shape_at store.old.world (view_in store.old n)) word (shape_at store.old.world (view_in store.old other)) ≡ true }
     requires change { ChangesUpTo (2 ^ 62) store.old.world }
     ensures came { Came result store.old store.new (answered_with store.old.world (view_in store.old n) word (view_in store.old other)) }
-    ensures memory { wants_memory_with word ≡ false → result ≢ Err NoMemory }
+    ensures memory { result ≡ Err NoMemory → wants_memory_with store.old.world (view_in store.old n) word ≡ true }
     ensures changes { (most : ℕ) → ChangesUpTo most store.old.world → ChangesUpTo (most + 1) store.new.world }
 {
     let flags = store.flags_of(n);
@@ -218,7 +220,7 @@ fn carry_out_with<L: Ledger>(
     requires allowed { table.lacks (flags_at store.old.world (view_in store.old n)) (spec.needs_with word) ≡ false }
     requires change { ChangesUpTo (2 ^ 62) store.old.world }
     ensures came { Came result store.old store.new (answered_with store.old.world (view_in store.old n) word (view_in store.old other)) }
-    ensures memory { wants_memory_with word ≡ false → result ≢ Err NoMemory }
+    ensures memory { result ≡ Err NoMemory → wants_memory_with store.old.world (view_in store.old n) word ≡ true }
 {
     match word {
         OnOther::ContainsAll => Ok(Answer::Truth(contains_all(store, n, other, steps))),

@@ -1,5 +1,5 @@
 //! Removing all that a view shows, or all of it that passes a test.
-ghost use Rattle.std.specs.Prelude.{◌≡◌, ◌<◌, ◌^◌, Ok, length, true};
+ghost use Rattle.std.specs.Prelude.{◌≡◌, ◌<◌, ◌^◌, ◌-◌, Ok, length, true};
 ghost use Rattle.base_store.specs.Stored.{view_in};
 ghost use Rattle.view_steps.specs.Answering.{all_hits};
 ghost use Rattle.view_steps.specs.Limits.{ChangesUpTo};

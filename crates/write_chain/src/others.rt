@@ -1,5 +1,5 @@
 //! The calls with another view, on a view that allows them.
-ghost use Rattle.std.specs.Prelude.{◌≡◌, ◌<◌, ◌^◌, Ok, cond, length, not, true};
+ghost use Rattle.std.specs.Prelude.{◌≡◌, ◌<◌, ◌^◌, ◌-◌, Ok, cond, length, not, true};
 ghost use Rattle.std.specs.List.{list_any};
 ghost use Rattle.base_store.specs.BaseRows.{AreRowsOf};
 ghost use Rattle.base_store.specs.Stored.{view_in};

@@ -1,16 +1,18 @@
 //! The calls that add one item to a view that allows it.
-ghost use Rattle.std.specs.Prelude.{◌≡◌, ◌<◌, ◌^◌, length, true};
+ghost use Rattle.std.specs.Prelude.{◌≡◌, ◌<◌, ◌^◌, ◌-◌, length, true, Err};
 ghost use Rattle.base_store.specs.Stored.{view_in};
 ghost use Rattle.view_steps.specs.Answering.{answered};
 ghost use Rattle.view_steps.specs.Calls as spec;
 ghost use Rattle.view_steps.specs.Indexes.{is_list};
 ghost use Rattle.view_steps.specs.Limits.{ChangesUpTo};
+ghost use Rattle.view_steps.specs.Memory.{adds_rows};
 ghost use Rattle.view_steps.specs.Views.{flags_at, shape_at};
 ghost use Rattle.view_steps.specs.declared.calls.Call.TheVariants as calls;
 ghost use Rattle.view_steps.specs.declared.calls.OnElement.TheVariants as on_element;
 ghost use Rattle.view_steps.specs.declared.calls.OnIndexed.TheVariants as on_indexed;
 ghost use Rattle.view_steps.specs.declared.calls.OnPair.TheVariants as on_pair;
 ghost use Rattle.write_chain.specs.Calls.{Came};
+ghost use Rattle.view_steps.specs.declared.refusals.Refusal.TheVariants.{NoMemory};
 
 use crate::adding::add_one;
 use crate::spots::end_spot;
@@ -39,7 +41,8 @@ pub(crate) fn add<L: Ledger>(
     requires elements { spec.is_elements (shape_at store.old.world (view_in store.old n)) ≡ true }
     requires adds { (flags_at store.old.world (view_in store.old n)).add ≡ true }
     requires change { ChangesUpTo (2 ^ 62) store.old.world }
-    ensures { Came result store.old store.new (answered store.old.world (view_in store.old n) (calls.Element on_element.Add x.now)) }
+    ensures came { Came result store.old store.new (answered store.old.world (view_in store.old n) (calls.Element on_element.Add x.now)) }
+    ensures memory { result ≡ Err NoMemory → adds_rows store.old.world (answered store.old.world (view_in store.old n) (calls.Element on_element.Add x.now)) ≡ true }
 {
     let item = Item::One(*x);
     let old = is_set(store, n) && contains(store, n, &item, steps);
@@ -59,7 +62,8 @@ pub(crate) fn add_at<L: Ledger>(
     requires list { is_list (shape_at store.old.world (view_in store.old n)) ≡ true }
     requires adds { (flags_at store.old.world (view_in store.old n)).add ≡ true }
     requires change { ChangesUpTo (2 ^ 62) store.old.world }
-    ensures { Came result store.old store.new (answered store.old.world (view_in store.old n) (calls.Indexed on_indexed.AddAt i x.now)) }
+    ensures came { Came result store.old store.new (answered store.old.world (view_in store.old n) (calls.Indexed on_indexed.AddAt i x.now)) }
+    ensures memory { result ≡ Err NoMemory → adds_rows store.old.world (answered store.old.world (view_in store.old n) (calls.Indexed on_indexed.AddAt i x.now)) ≡ true }
 {
     let Some(at) = i else {
         return Err(Refusal::IndexOutOfBounds);
@@ -84,7 +88,8 @@ pub(crate) fn set_at<L: Ledger>(
     requires list { is_list (shape_at store.old.world (view_in store.old n)) ≡ true }
     requires adds { (flags_at store.old.world (view_in store.old n)).add ≡ true }
     requires change { ChangesUpTo (2 ^ 62) store.old.world }
-    ensures { Came result store.old store.new (answered store.old.world (view_in store.old n) (calls.Indexed on_indexed.SetAt i x.now)) }
+    ensures came { Came result store.old store.new (answered store.old.world (view_in store.old n) (calls.Indexed on_indexed.SetAt i x.now)) }
+    ensures memory { result ≡ Err NoMemory → adds_rows store.old.world (answered store.old.world (view_in store.old n) (calls.Indexed on_indexed.SetAt i x.now)) ≡ true }
 {
     let Some(at) = i else {
         return Err(Refusal::IndexOutOfBounds);
@@ -116,7 +121,8 @@ pub(crate) fn put<L: Ledger>(
     requires map { spec.is_map (shape_at store.old.world (view_in store.old n)) ≡ true }
     requires adds { (flags_at store.old.world (view_in store.old n)).add ≡ true }
     requires change { ChangesUpTo (2 ^ 62) store.old.world }
-    ensures { Came result store.old store.new (answered store.old.world (view_in store.old n) (calls.Pair on_pair.Put k.now w.now)) }
+    ensures came { Came result store.old store.new (answered store.old.world (view_in store.old n) (calls.Pair on_pair.Put k.now w.now)) }
+    ensures memory { result ≡ Err NoMemory → adds_rows store.old.world (answered store.old.world (view_in store.old n) (calls.Pair on_pair.Put k.now w.now)) ≡ true }
 {
     let before = map_get(store, n, k, steps);
     add_one(

@@ -1,5 +1,5 @@
 //! The calls that remove one item of a view that allows it.
-ghost use Rattle.std.specs.Prelude.{◌≡◌, ◌<◌, ◌^◌, Ok, length, true, ◌≢◌, Err};
+ghost use Rattle.std.specs.Prelude.{◌≡◌, ◌<◌, ◌^◌, ◌-◌, Ok, length, true, ◌≢◌, Err};
 ghost use Rattle.base_store.specs.Stored.{view_in};
 ghost use Rattle.view_steps.specs.Answering.{answered, first_hit};
 ghost use Rattle.view_steps.specs.Answers as spec;

@@ -1,5 +1,6 @@
 //! Rows that come to a base.
-ghost use Rattle.std.specs.Prelude.{◌≡◌, ◌<◌, ◌≤◌, ◌+◌, ◌⊎◌, length, IfErr, OnErr, OnOk};
+ghost use Rattle.std.specs.Prelude.{◌≡◌, ◌<◌, ◌≤◌, ◌+◌, ◌⊎◌, length, true, IfErr, OnErr, OnOk};
+ghost use Rattle.base_store.specs.Adding.{is_one_more};
 ghost use Rattle.base_store.specs.BaseRows.{kind_of, rows_of, AreRowsOf, IsFree, IsRowOf, IsSpotIn};
 ghost use Rattle.view_steps.specs.Edits.{placed_all, placed_at};
 ghost use Rattle.view_steps.specs.declared.refusals.Refusal.TheVariants as refusals;
@@ -31,6 +32,7 @@ impl BaseRows {
         ensures kind { kind_of self.new ≡ kind_of self.old }
         ensures ok { OnOk result (rows_of self.new ≡ placed_at (kind_of self.old) spot (rows_of self.old) row.now) }
         ensures err { OnErr result (rows_of self.new ≡ rows_of self.old) }
+        ensures memory { OnErr result (is_one_more (kind_of self.old) spot (rows_of self.old) row.now ≡ true) }
     {
         match self {
             BaseRows::ArrayList(rows) => place_item(rows, spot, key_of(row), steps),

@@ -1,5 +1,6 @@
 //! What changes one base of a store: its rows, and its change number with them.
-ghost use Rattle.std.specs.Prelude.{◌≡◌, ◌<◌, ◌≤◌, ◌+◌, ◌^◌, ◌⊎◌, ◌∷◌, ℕ, [], List, Some, filter, if◌then◌else◌, length, nat_lt, not, IfErr, OnErr, OnOk};
+ghost use Rattle.std.specs.Prelude.{◌≡◌, ◌<◌, ◌≤◌, ◌+◌, ◌^◌, ◌⊎◌, ◌∷◌, ℕ, [], List, Some, filter, if◌then◌else◌, length, nat_lt, not, true, IfErr, OnErr, OnOk};
+ghost use Rattle.base_store.specs.Adding.{is_one_more};
 ghost use Rattle.base_store.specs.BaseRows.{AreRowsOf, IsFree, IsRowOf, IsSpotIn};
 ghost use Rattle.view_steps.specs.Edits.{adding, edited, removing, with_rows};
 ghost use Rattle.view_steps.specs.Lanes.{IsFrom};
@@ -27,6 +28,7 @@ impl Slot {
         ensures ok { OnOk result (self.new ≡ edited self.old (adding spot (row.now ∷ []))) }
         ensures keys { OnOk result (HasKeys self.new) }
         ensures err { OnErr result (self.new ≡ self.old) }
+        ensures memory { OnErr result (is_one_more self.old.kind spot self.old.rows row.now ≡ true) }
     {
         let before = self.rows.len();
         let Ok(()) = self.rows.place(spot, row, steps) else {

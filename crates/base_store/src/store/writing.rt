@@ -1,5 +1,5 @@
 //! Changing the bases of a store.
-ghost use Rattle.std.specs.Prelude.{◌≡◌, ◌<◌, ◌≤◌, ◌+◌, ◌^◌, ◌⊎◌, ◌&&◌, ◌++◌, ◌∷◌, ℕ, [], List, Some, length, nat_eq, IfErr, OnErr, OnOk};
+ghost use Rattle.std.specs.Prelude.{◌≡◌, ◌<◌, ◌≤◌, ◌+◌, ◌^◌, ◌⊎◌, ◌&&◌, ◌++◌, ◌∷◌, ℕ, [], List, Some, length, nat_eq, true, Err, IfErr, OnErr, OnOk};
 ghost use Rattle.base_store.specs.Adding.{is_one_more};
 ghost use Rattle.base_store.specs.BaseRows.{AreRowsOf, IsFree, IsRowOf, IsSpotIn, kind_of, rows_of};
 ghost use Rattle.base_store.specs.Hits.{StandBelow};
@@ -9,7 +9,7 @@ ghost use Rattle.view_steps.specs.Answering.{all_hits};
 ghost use Rattle.view_steps.specs.Edits.{adding, edited, removing, world_after};
 ghost use Rattle.view_steps.specs.Kinds.{shape_of_kind};
 ghost use Rattle.view_steps.specs.Lanes.{IsFrom};
-ghost use Rattle.view_steps.specs.Limits.{rows_in, most_rows};
+ghost use Rattle.view_steps.specs.Limits.{rows_in, most_rows, Grows};
 ghost use Rattle.view_steps.specs.Places as spec;
 ghost use Rattle.view_steps.specs.Places.{HasKeys};
 ghost use Rattle.view_steps.specs.Shapes.{is_keyed};
@@ -46,6 +46,7 @@ impl Store {
         ensures few { rows_in self.new.world ≤ most_rows }
         ensures err { OnErr result (self.new ≡ self.old) }
         ensures cause { IfErr result (λ why. ((why ≡ refusals.Limit) × (most_rows < rows_in (world_after self.old.world b (adding spot (row.now ∷ []))))) ⊎ (why ≡ refusals.NoMemory)) }
+        ensures memory { result ≡ Err refusals.NoMemory → Grows self.old.world (world_after self.old.world b (adding spot (row.now ∷ []))) }
     {
         let at = b.number();
         let before = rows_at(self.slots.as_slice(), at);
@@ -199,6 +200,7 @@ fn place_in<L: Ledger>(
     ensures ok { OnOk result (slots.new.items ≡ world_after slots.old.items b (adding spot (row.now ∷ []))) }
     ensures keys { OnOk result (HasKeys (edited (base_at slots.old.items b) (adding spot (row.now ∷ [])))) }
     ensures err { OnErr result (slots.new.items ≡ slots.old.items) }
+    ensures memory { OnErr result (is_one_more (base_at slots.old.items b).kind spot (base_at slots.old.items b).rows row.now ≡ true) }
 {
     let slot = &mut slots[b];
     slot.place(spot, row, steps)

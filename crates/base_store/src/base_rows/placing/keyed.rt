@@ -1,7 +1,8 @@
 //! Rows that come to a set or a map.
-ghost use Rattle.std.specs.Prelude.{◌≡◌, ◌<◌, ◌≤◌, ◌+◌, ◌⊎◌, fold, length, IfErr, IfOk, OnErr, OnOk};
+ghost use Rattle.std.specs.Prelude.{◌≡◌, ◌<◌, ◌≤◌, ◌+◌, ◌⊎◌, fold, length, IfErr, IfOk, None, OnErr, OnOk};
 ghost use Rattle.base_store.specs.Journals.{all_undone, undone, with_item, with_row};
 ghost use Rattle.elem.specs.Keyed.{value_at};
+ghost use Rattle.view_steps.specs.Items.{key_of};
 ghost use Rattle.view_steps.specs.declared.refusals.Refusal.TheVariants as refusals;
 
 use super::row_values::RowValue;
@@ -20,6 +21,7 @@ fn put<V: Copy, K: Keyed<V>, L: Ledger>(
     ensures ok { OnOk result (K.rows rows.new ≡ with_row K.inserted (K.rows rows.old) k.now v) }
     ensures before { IfOk result (λ before. before ≡ value_at (K.rows rows.old) k.now) }
     ensures err { OnErr result (K.rows rows.new ≡ K.rows rows.old) }
+    ensures memory { OnErr result (value_at (K.rows rows.old) k.now ≡ None) }
 {
     if let Some(before) = rows.probe(*k, steps) {
         rows.replace(*k, v, steps);
@@ -39,6 +41,7 @@ pub fn put_row<V: RowValue, K: Keyed<V>, L: Ledger>(
 ) -> Result<(), NoMemory>
     ensures ok { OnOk result (K.rows rows.new ≡ with_item K.inserted V.value_in (K.rows rows.old) row.now) }
     ensures err { OnErr result (K.rows rows.new ≡ K.rows rows.old) }
+    ensures memory { OnErr result (value_at (K.rows rows.old) (key_of row.now) ≡ None) }
 {
     match put(rows, &key_of(row), V::value(row), steps) {
         Ok(_) => Ok(()),

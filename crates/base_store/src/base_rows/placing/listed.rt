@@ -1,5 +1,6 @@
 //! Rows that come to a list.
-ghost use Rattle.std.specs.Prelude.{◌≡◌, ◌<◌, ◌≤◌, ◌+◌, ◌⊎◌, length, IfErr, OnErr, OnOk};
+ghost use Rattle.std.specs.Prelude.{◌≡◌, ◌<◌, ◌≤◌, ◌+◌, ◌⊎◌, length, true, IfErr, OnErr, OnOk};
+ghost use Rattle.base_store.specs.Adding.{is_one_more};
 ghost use Rattle.std.specs.List.{remove_range};
 ghost use Rattle.base_store.specs.BaseRows.{items, AreRowsOf, IsFree, IsSpotIn};
 ghost use Rattle.base_store.specs.Journals.{index_in};
@@ -23,6 +24,7 @@ pub fn place_item<L: Ledger>(
     requires { IsSpotIn ArrayList (length rows.old) spot }
     ensures ok { OnOk result (items rows.new ≡ placed_at ArrayList spot (items rows.old) (One x)) }
     ensures err { OnErr result (items rows.new ≡ items rows.old) }
+    ensures memory { OnErr result (is_one_more ArrayList spot (items rows.old) (One x) ≡ true) }
 {
     match spot {
         Spot::Own => {

@@ -1,5 +1,7 @@
 //! Rows that come to a sorted set or map.
-ghost use Rattle.std.specs.Prelude.{◌≡◌, ◌<◌, ◌≤◌, ◌+◌, ◌⊎◌, fold, length, IfErr, OnErr, OnOk};
+ghost use Rattle.std.specs.Prelude.{◌≡◌, ◌<◌, ◌≤◌, ◌+◌, ◌⊎◌, fold, length, IfErr, None, OnErr, OnOk};
+ghost use Rattle.elem.specs.Keyed.{value_at};
+ghost use Rattle.view_steps.specs.Items.{key_of};
 ghost use Rattle.base_store.specs.Journals.{with_item};
 ghost use Rattle.plain_base.specs.Sorted.{IsInOrder, placed};
 ghost use Rattle.view_steps.specs.declared.refusals.Refusal.TheVariants as refusals;
@@ -21,6 +23,7 @@ pub fn put_sorted<V: RowValue, C: Compare, L: Ledger>(
     ensures order { IsInOrder C.before rows.old }
     ensures ok { OnOk result (rows.new ≡ with_item (placed C.before) V.value_in rows.old row.now) }
     ensures err { OnErr result (rows.new ≡ rows.old) }
+    ensures memory { OnErr result (value_at rows.old (key_of row.now) ≡ None) }
 {
     let _len = rows.len();
     put_row(rows, row, steps)

@@ -1,5 +1,6 @@
-use Rattle.std.proofs.Common.{sym, subst}
+use Rattle.std.proofs.Common.{◌≡◌, true, sym, subst}
 use Rattle.base_store.specs.Stored.{view_in}
+use Rattle.view_steps.specs.Memory.{adds_rows}
 use Rattle.write_chain.specs.Calls.{Came}
 use Rattle.write_chain.proofs.IndexCalls.{set_at_given, set_at_within}
 use Rattle.write_chain.proofs.ShapeLemmas.{list_fits}
@@ -21,11 +22,20 @@ add_one-requires-clause-spot g c =
     let v = view_in s c.args.n in
     (list_base s.world v c.requires.adds c.requires.list, rw (← c.base_of.ensures.base, ← c.len-rows.ensures.len) c.item_index.ensures.within)
 
-pub returns : goal.returns
-returns g c =
+pub returns-clause-came : goal.returns-clause-came
+returns-clause-came g c =
     let s = c.args.store.now in
     let v = view_in s c.args.n in
     subst (Came c.add_one.result s c.add_one.new.store)
     (sym (set_at_given s.world v c.base_of.result c.len-rows.result c.args.i c.in-Some.at c.item_index.result c.args.x.now c.in-Some-item_at.before c.key_of.result
     (record { base = c.base_of.ensures.base; rows_are = c.len-rows.ensures.len; index = c.in-Some.is }) c.requires.adds c.in-Some-item_at.ensures c.item_index.ensures.index c.key_of.ensures))
-    c.add_one.ensures
+    c.add_one.ensures.came
+
+pub returns-clause-memory : goal.returns-clause-memory
+returns-clause-memory g c = λ e.
+    let s = c.args.store.now in
+    let v = view_in s c.args.n in
+    subst (λ outcome. adds_rows s.world outcome ≡ true)
+    (sym (set_at_given s.world v c.base_of.result c.len-rows.result c.args.i c.in-Some.at c.item_index.result c.args.x.now c.in-Some-item_at.before c.key_of.result
+    (record { base = c.base_of.ensures.base; rows_are = c.len-rows.ensures.len; index = c.in-Some.is }) c.requires.adds c.in-Some-item_at.ensures c.item_index.ensures.index c.key_of.ensures))
+    (c.add_one.ensures.memory e)

@@ -1,6 +1,9 @@
 use Rattle.std.proofs.Common.{refl, ap}
 use Rattle.elem.specs.OrderLaws.{natural_before_strict, reverse_before_strict, length_before_strict}
 use Rattle.base_store.specs.BaseRows.{kind_of, rows_of}
+use Rattle.view_steps.specs.Kinds.{shape_of_kind}
+use Rattle.view_steps.specs.Shapes.{is_keyed}
+use Rattle.base_store.proofs.KeyedRows.{set_wants, map_wants}
 use Rattle.base_store.proofs.PutLemmas.{on_ok, linked_one, sorted_one, linked_set, tree_set, tree_set_reverse, tree_set_length, linked_map, tree_map, tree_map_reverse, tree_map_length}
 use Rattle.base_store.proofs.base_rows.BaseRows.place.Goals as goal
 
@@ -27,3 +30,27 @@ returns-in-TreeMapReverse-clause-ok g c = on_ok c.put_sorted-in-TreeMapReverse.r
 
 pub returns-in-TreeMapLength-clause-ok : goal.returns-in-TreeMapLength-clause-ok
 returns-in-TreeMapLength-clause-ok g c = on_ok c.put_sorted-in-TreeMapLength.result (sorted_one (record { kind_is = ap kind_of c.in-TreeMapLength.is; rows_are = ap rows_of c.in-TreeMapLength.is; by_key = refl }) length_before_strict tree_map_length c.put_sorted-in-TreeMapLength.ensures.order c.args.spot c.args.row.now c.put_sorted-in-TreeMapLength.new.rows c.requires.fits c.requires.spot) c.put_sorted-in-TreeMapLength.ensures.ok
+
+pub returns-in-LinkedHashSet-clause-memory : goal.returns-in-LinkedHashSet-clause-memory
+returns-in-LinkedHashSet-clause-memory g c = set_wants _ c.args.self.now c.args.spot c.args.row.now c.put_row.result (ap rows_of c.in-LinkedHashSet.is) (ap (λ r. is_keyed (shape_of_kind (kind_of r))) c.in-LinkedHashSet.is) c.requires.spot c.put_row.ensures.memory
+
+pub returns-in-TreeSet-clause-memory : goal.returns-in-TreeSet-clause-memory
+returns-in-TreeSet-clause-memory g c = set_wants _ c.args.self.now c.args.spot c.args.row.now c.put_sorted.result (ap rows_of c.in-TreeSet.is) (ap (λ r. is_keyed (shape_of_kind (kind_of r))) c.in-TreeSet.is) c.requires.spot c.put_sorted.ensures.memory
+
+pub returns-in-TreeSetReverse-clause-memory : goal.returns-in-TreeSetReverse-clause-memory
+returns-in-TreeSetReverse-clause-memory g c = set_wants _ c.args.self.now c.args.spot c.args.row.now c.put_sorted-in-TreeSetReverse.result (ap rows_of c.in-TreeSetReverse.is) (ap (λ r. is_keyed (shape_of_kind (kind_of r))) c.in-TreeSetReverse.is) c.requires.spot c.put_sorted-in-TreeSetReverse.ensures.memory
+
+pub returns-in-TreeSetLength-clause-memory : goal.returns-in-TreeSetLength-clause-memory
+returns-in-TreeSetLength-clause-memory g c = set_wants _ c.args.self.now c.args.spot c.args.row.now c.put_sorted-in-TreeSetLength.result (ap rows_of c.in-TreeSetLength.is) (ap (λ r. is_keyed (shape_of_kind (kind_of r))) c.in-TreeSetLength.is) c.requires.spot c.put_sorted-in-TreeSetLength.ensures.memory
+
+pub returns-in-LinkedHashMap-clause-memory : goal.returns-in-LinkedHashMap-clause-memory
+returns-in-LinkedHashMap-clause-memory g c = map_wants _ c.args.self.now c.args.spot c.args.row.now c.put_row-in-LinkedHashMap.result (ap rows_of c.in-LinkedHashMap.is) (ap (λ r. is_keyed (shape_of_kind (kind_of r))) c.in-LinkedHashMap.is) c.requires.spot c.put_row-in-LinkedHashMap.ensures.memory
+
+pub returns-in-TreeMap-clause-memory : goal.returns-in-TreeMap-clause-memory
+returns-in-TreeMap-clause-memory g c = map_wants _ c.args.self.now c.args.spot c.args.row.now c.put_sorted-in-TreeMap.result (ap rows_of c.in-TreeMap.is) (ap (λ r. is_keyed (shape_of_kind (kind_of r))) c.in-TreeMap.is) c.requires.spot c.put_sorted-in-TreeMap.ensures.memory
+
+pub returns-in-TreeMapReverse-clause-memory : goal.returns-in-TreeMapReverse-clause-memory
+returns-in-TreeMapReverse-clause-memory g c = map_wants _ c.args.self.now c.args.spot c.args.row.now c.put_sorted-in-TreeMapReverse.result (ap rows_of c.in-TreeMapReverse.is) (ap (λ r. is_keyed (shape_of_kind (kind_of r))) c.in-TreeMapReverse.is) c.requires.spot c.put_sorted-in-TreeMapReverse.ensures.memory
+
+pub returns-in-TreeMapLength-clause-memory : goal.returns-in-TreeMapLength-clause-memory
+returns-in-TreeMapLength-clause-memory g c = map_wants _ c.args.self.now c.args.spot c.args.row.now c.put_sorted-in-TreeMapLength.result (ap rows_of c.in-TreeMapLength.is) (ap (λ r. is_keyed (shape_of_kind (kind_of r))) c.in-TreeMapLength.is) c.requires.spot c.put_sorted-in-TreeMapLength.ensures.memory

@@ -3,7 +3,7 @@ use Rattle.view_steps.specs.Edits.{adding}
 use Rattle.view_steps.specs.Views.{base_at}
 use Rattle.base_store.specs.Stored.{Stored}
 use Rattle.base_store.proofs.BuiltLemmas.{sound_edited}
-use Rattle.base_store.proofs.SpotLemmas.{row_fits, row_too_many}
+use Rattle.base_store.proofs.SpotLemmas.{row_fits, row_grows, row_too_many}
 use Rattle.base_store.proofs.store.Store.place_row.Goals as goal
 
 pub returns-then-is_full-clause-cause : goal.returns-then-is_full-clause-cause
@@ -64,3 +64,10 @@ returns-clause-few c d =
     let room = row_fits d.self.inside.rows (base_at d.self.inside.slots.items d.number-at.result) d.args.spot d.args.row.now d.self.invariant.few spot full keys in
     let h = sound_edited s d.self.inside.rows d.number-at.result d.rows_at-before.result d.rows_at-after.result (adding d.args.spot (d.args.row.now ∷ [])) d.self.invariant lt keys was is room in
     rw d.in-Ok.ensures.ok (omega (arith, h.1.counted, h.1.few))
+
+pub returns-in_default-clause-memory : goal.returns-in_default-clause-memory
+returns-in_default-clause-memory c d = λ e.
+    let lt = rw (← d.self.view_is, ← d.number-at.ensures) at d.requires.base in
+    let spot = rw (← d.self.view_is, ← d.number-at.ensures) at d.requires.spot in
+    let full = rw (d.as_slice-2.ensures.value, d.self.invariant.counted) at (sym d.is_full.ensures ∙ d.if-is_full.false) in
+    rw (← d.self.view_is, ← d.number-at.ensures) (row_grows d.self.inside.slots.items d.number-at.result d.args.spot d.args.row.now lt spot (rw d.self.invariant.counted at d.self.invariant.few) full d.in_default.ensures.memory)
