@@ -1,5 +1,5 @@
 //! The calls on views.
-ghost use Rattle.std.specs.Prelude.{◌≡◌, ◌<◌, ◌^◌, length};
+ghost use Rattle.std.specs.Prelude.{◌≡◌, ◌<◌, ◌^◌, ◌-◌, length};
 ghost use Rattle.base_store.specs.Stored.{view_in};
 ghost use Rattle.session.specs.Called.{called, called_with};
 ghost use Rattle.session.specs.Coming.{Came};
@@ -23,7 +23,7 @@ pub fn call_on<S: Sink, L: Ledger>(
     steps: &mut Steps<L>,
 ) -> Result<(), ExecFault>
     requires node { n < length store.old.nodes }
-    requires change { ChangesUpTo (2 ^ 62) store.old.world }
+    requires change { ChangesUpTo (2 ^ 63 - 1) store.old.world }
     ensures { Came result store.old store.new (λ state. called state (view_in store.old n) call.now) (S.taken out.old) (S.taken out.new) (S.faults out.old) (S.faults out.new) }
 {
     if !fits(store.shape(n), call) {
@@ -45,7 +45,7 @@ pub fn call_with_on<S: Sink, L: Ledger>(
 ) -> Result<(), ExecFault>
     requires node { n < length store.old.nodes }
     requires other { other < length store.old.nodes }
-    requires change { ChangesUpTo (2 ^ 62) store.old.world }
+    requires change { ChangesUpTo (2 ^ 63 - 1) store.old.world }
     ensures { Came result store.old store.new (λ state. called_with state (view_in store.old n) word (view_in store.old other)) (S.taken out.old) (S.taken out.new) (S.faults out.old) (S.faults out.new) }
 {
     if !fits_with(store.shape(n), word, store.shape(other)) {

@@ -1,5 +1,5 @@
 //! The bases of a session, and the names of views of them.
-ghost use Rattle.std.specs.Prelude.{◌≡◌, ◌≤◌, ◌^◌, length, IfErr, OnErr, OnOk};
+ghost use Rattle.std.specs.Prelude.{◌≡◌, ◌≤◌, ◌^◌, ◌-◌, length, IfErr, OnErr, OnOk};
 ghost use Rattle.script_text.specs.Names.{kind_text};
 ghost use Rattle.session.specs.Binding.{Answers, IsFull, KeptNode, Keeps};
 ghost use Rattle.session.specs.Parts.{parts_in};
@@ -128,7 +128,7 @@ impl Environment {
         steps: &mut Steps<L>,
     ) -> Result<(), ExecFault>
         requires short { length line.now ≤ 1024 }
-        requires change { ChangesUpTo (2 ^ 62) self.old.bases }
+        requires change { ChangesUpTo (2 ^ 63 - 1) self.old.bases }
         ensures { Executed result self.old self.new (eval_of self.old (view_named self.old.names head) (parts_in line.now parts.now)) (S.taken out.old) (S.taken out.new) (S.faults out.old) (S.faults out.new) }
     {
         let Some(head) = self.names.get(&head) else {

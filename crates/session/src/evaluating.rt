@@ -1,5 +1,5 @@
 //! Evaluating the words behind a name.
-ghost use Rattle.std.specs.Prelude.{◌≡◌, ◌<◌, ◌≤◌, ◌++◌, ◌∷◌, [], ◌^◌, Ok, length};
+ghost use Rattle.std.specs.Prelude.{◌≡◌, ◌<◌, ◌≤◌, ◌++◌, ◌∷◌, [], ◌^◌, ◌-◌, Ok, length};
 ghost use Rattle.base_store.specs.Stored.{view_in};
 ghost use Rattle.session.specs.Coming.{Came};
 ghost use Rattle.session.specs.Environment.{NamesWithin};
@@ -39,7 +39,7 @@ pub fn evaluate<S: Sink, L: Ledger>(
     requires still { length store.old.nodes ≡ store.old.lasting }
     requires names { NamesWithin store.old.lasting names.now.entries }
     requires short { length line.now ≤ 1024 }
-    requires change { ChangesUpTo (2 ^ 62) store.old.world }
+    requires change { ChangesUpTo (2 ^ 63 - 1) store.old.world }
     ensures { Came result store.old store.new (λ state. concluded state (target_in store.old names.now.entries purpose.Reply head (parts_in line.now parts.now))) (S.taken out.old) (S.taken out.new) (S.faults out.old) (S.faults out.new) }
 {
     if let Some(fault) = typing_fault(
@@ -77,7 +77,7 @@ fn conclude<S: Sink, L: Ledger>(
     steps: &mut Steps<L>,
 ) -> Result<(), ExecFault>
     requires end { IsEnd store.old end.now }
-    requires change { ChangesUpTo (2 ^ 62) store.old.world }
+    requires change { ChangesUpTo (2 ^ 63 - 1) store.old.world }
     ensures { Came result store.old store.new (λ state. concluded state (Ok (end_in store.old end.now))) (S.taken out.old) (S.taken out.new) (S.faults out.old) (S.faults out.new) }
 {
     match end {
@@ -95,7 +95,7 @@ fn conclude_at<S: Sink, L: Ledger>(
     steps: &mut Steps<L>,
 ) -> Result<(), ExecFault>
     requires end { IsEnd store.old (Ok end.now) }
-    requires change { ChangesUpTo (2 ^ 62) store.old.world }
+    requires change { ChangesUpTo (2 ^ 63 - 1) store.old.world }
     ensures { Came result store.old store.new (λ state. concluded state (Ok (end_in store.old (Ok end.now)))) (S.taken out.old) (S.taken out.new) (S.faults out.old) (S.faults out.new) }
 {
     match end {

@@ -1,5 +1,5 @@
 //! A session: the lines that are executed, one after another.
-ghost use Rattle.std.specs.Prelude.{◌≡◌, ℕ, ◌+◌, ◌^◌, ◌≤◌, Err, OnOk};
+ghost use Rattle.std.specs.Prelude.{◌≡◌, ℕ, ◌+◌, ◌^◌, ◌-◌, ◌≤◌, Err, OnOk};
 ghost use Rattle.elem.specs.Outside.{Rose};
 ghost use Rattle.session.specs.Executing.{Executed};
 ghost use Rattle.session.specs.Machine.{step};
@@ -65,7 +65,7 @@ impl Session {
         out: &mut S,
         steps: &mut Steps<L>,
     ) -> Result<(), ExecFault>
-        requires { ChangesUpTo (2 ^ 62) self.old.bases }
+        requires { ChangesUpTo (2 ^ 63 - 1) self.old.bases }
         ensures ok { OnOk result (self.new ≡ (step self.old line.now).after) }
         ensures reply { Wrote result (S.taken out.old) (S.taken out.new) (written (step self.old line.now).reply) }
         ensures unchanged { result ≡ Err ExecFault.NoMemory → self.new ≡ self.old }
@@ -82,7 +82,7 @@ impl Session {
         out: &mut S,
         steps: &mut Steps<L>,
     ) -> Result<(), ExecFault>
-        requires { ChangesUpTo (2 ^ 62) self.old.bases }
+        requires { ChangesUpTo (2 ^ 63 - 1) self.old.bases }
         ensures { Executed result self.old self.new (step self.old line.now) (S.taken out.old) (S.taken out.new) (S.faults out.old) (S.faults out.new) }
     {
         match read_line(line, &mut self.parts) {

@@ -1,5 +1,5 @@
 //! A script that comes in pieces: each line is executed as its newline comes.
-ghost use Rattle.std.specs.Prelude.{◌≡◌, ℕ, ◌+◌, ◌^◌, ◌≤◌, ◌++◌, ◌∷◌, [], length, IfNone, IfSome, OnOk, OnErr, Err};
+ghost use Rattle.std.specs.Prelude.{◌≡◌, ℕ, ◌+◌, ◌^◌, ◌-◌, ◌≤◌, ◌++◌, ◌∷◌, [], length, IfNone, IfSome, OnOk, OnErr, Err};
 ghost use Rattle.elem.specs.Outside.{Rose};
 ghost use Rattle.view_steps.specs.Limits.{ChangesUpTo};
 ghost use Rattle.session.specs.Replying.{Wrote};
@@ -19,7 +19,7 @@ fn take_line<S: Sink, L: Ledger>(
     sink: &mut S,
     steps: &mut Steps<L>,
 ) -> Result<(), ExecFault>
-    requires changes { ChangesUpTo (2 ^ 62) session.old.bases }
+    requires changes { ChangesUpTo (2 ^ 63 - 1) session.old.bases }
     requires one { IsOneLine text.now }
     ensures ok { OnOk result (Fed session.old session.new line.old line.new (text.now ++ 10 ∷ []) (S.taken sink.old) (S.taken sink.new)) }
     ensures err { OnErr result (FedFront session.old line.old (text.now ++ 10 ∷ []) (S.taken sink.old) (S.taken sink.new)) }
@@ -84,7 +84,7 @@ pub fn finish<S: Sink, L: Ledger>(
     sink: &mut S,
     steps: &mut Steps<L>,
 ) -> Result<(), ExecFault>
-    requires { ChangesUpTo (2 ^ 62) session.old.bases }
+    requires { ChangesUpTo (2 ^ 63 - 1) session.old.bases }
     ensures reply { Wrote result (S.taken sink.old) (S.taken sink.new) (replies_on session.old line.now []) }
     ensures later { S.faults sink.old ≤ S.faults sink.new }
     ensures cause { result ≡ Err ExecFault.WriteFault → Rose (S.faults sink.old) (S.faults sink.new) }

@@ -1,5 +1,5 @@
 -- Change numbers: no edit raises one by more than one.
-use Rattle.std.proofs.Common.{ℕ, zero, suc, ◌+◌, ◌≤◌, Bool, true, false, cond, [], ◌∷◌, arith, ◌<◌, ◌^◌}
+use Rattle.std.proofs.Common.{ℕ, zero, suc, ◌+◌, ◌≤◌, Bool, true, false, cond, [], ◌∷◌, arith, ◌<◌, ◌^◌, ◌-◌}
 use Rattle.std.specs.Prelude.{slice_set}
 use Rattle.view_steps.specs.Edits.{Edit, edited, world_after}
 use Rattle.view_steps.specs.Limits.{ChangesUpTo}
@@ -32,5 +32,5 @@ edited_base most world b edit h =
     changed_base most world b (edited (base_at world b) edit) h (omega (arith, one_more))
 
 -- the change number of a base has room for one more
-pub room : (world : World) (b : ℕ) → ChangesUpTo (2 ^ 62) world → (base_at world b).change < 2 ^ 63
-room world b h = let e = change_at (2 ^ 62) world b h in omega (arith, e)
+pub room : (world : World) (b : ℕ) → ChangesUpTo (2 ^ 63 - 1) world → (base_at world b).change < 2 ^ 63
+room world b h = let e = change_at (2 ^ 63 - 1) world b h in omega (arith, e)

@@ -26,7 +26,7 @@ pub(crate) fn add_one<L: Ledger>(
     requires node { n < length store.old.nodes }
     requires fits { IsRowOf (base_at store.old.world (base_under (view_in store.old n))).kind item.now }
     requires spot { IsSpotIn (base_at store.old.world (base_under (view_in store.old n))).kind (length (base_at store.old.world (base_under (view_in store.old n))).rows) spot }
-    requires change { ChangesUpTo (2 ^ 62) store.old.world }
+    requires change { ChangesUpTo (2 ^ 63 - 1) store.old.world }
     ensures came { Came result store.old store.new (added store.old.world (view_in store.old n) (item.now ∷ []) spot answer) }
     ensures memory { result ≡ Err NoMemory → adds_rows store.old.world (added store.old.world (view_in store.old n) (item.now ∷ []) spot answer) ≡ true }
 {
@@ -54,7 +54,7 @@ pub(crate) fn add_many<L: Ledger>(
     requires fits { AreRowsOf (base_at store.old.world (base_under (view_in store.old n))).kind items.now }
     requires spot { IsSpotIn (base_at store.old.world (base_under (view_in store.old n))).kind (length (base_at store.old.world (base_under (view_in store.old n))).rows) spot }
     requires free { IsFree spot }
-    requires change { ChangesUpTo (2 ^ 62) store.old.world }
+    requires change { ChangesUpTo (2 ^ 63 - 1) store.old.world }
     ensures { Came result store.old store.new (added store.old.world (view_in store.old n) items.now spot answer) }
 {
     if !all_lift(store, n, items) {

@@ -40,7 +40,7 @@ pub fn call<L: Ledger>(
 ) -> Result<Answer, Refusal>
     requires node { n < length store.old.nodes }
     requires fits { spec.fits (shape_at store.old.world (view_in store.old n)) call.now ≡ true }
-    requires change { ChangesUpTo (2 ^ 62) store.old.world }
+    requires change { ChangesUpTo (2 ^ 63 - 1) store.old.world }
     ensures came { Came result store.old store.new (answered store.old.world (view_in store.old n) call.now) }
     ensures memory { result ≡ Err NoMemory → adds_rows store.old.world (answered store.old.world (view_in store.old n) call.now) ≡ true }
     ensures changes { (most : ℕ) → ChangesUpTo most store.old.world → ChangesUpTo (most + 1) store.new.world }
@@ -62,7 +62,7 @@ fn carry_out<L: Ledger>(
     requires node { n < length store.old.nodes }
     requires fits { spec.fits (shape_at store.old.world (view_in store.old n)) call.now ≡ true }
     requires allowed { table.lacks (flags_at store.old.world (view_in store.old n)) (spec.needs_of call.now) ≡ false }
-    requires change { ChangesUpTo (2 ^ 62) store.old.world }
+    requires change { ChangesUpTo (2 ^ 63 - 1) store.old.world }
     ensures came { Came result store.old store.new (answered store.old.world (view_in store.old n) call.now) }
     ensures memory { result ≡ Err NoMemory → adds_rows store.old.world (answered store.old.world (view_in store.old n) call.now) ≡ true }
 {
@@ -84,7 +84,7 @@ fn on_ask<L: Ledger>(
     requires node { n < length store.old.nodes }
     requires fits { spec.fits (shape_at store.old.world (view_in store.old n)) (calls.Ask word) ≡ true }
     requires allowed { table.lacks (flags_at store.old.world (view_in store.old n)) (spec.needs_of (calls.Ask word)) ≡ false }
-    requires change { ChangesUpTo (2 ^ 62) store.old.world }
+    requires change { ChangesUpTo (2 ^ 63 - 1) store.old.world }
     ensures came { Came result store.old store.new (answered store.old.world (view_in store.old n) (calls.Ask word)) }
     ensures memory { result ≡ Err NoMemory → adds_rows store.old.world (answered store.old.world (view_in store.old n) (calls.Ask word)) ≡ true }
 {
@@ -104,7 +104,7 @@ fn on_element<L: Ledger>(
     requires node { n < length store.old.nodes }
     requires fits { spec.fits (shape_at store.old.world (view_in store.old n)) (calls.Element word x.now) ≡ true }
     requires allowed { table.lacks (flags_at store.old.world (view_in store.old n)) (spec.needs_of (calls.Element word x.now)) ≡ false }
-    requires change { ChangesUpTo (2 ^ 62) store.old.world }
+    requires change { ChangesUpTo (2 ^ 63 - 1) store.old.world }
     ensures came { Came result store.old store.new (answered store.old.world (view_in store.old n) (calls.Element word x.now)) }
     ensures memory { result ≡ Err NoMemory → adds_rows store.old.world (answered store.old.world (view_in store.old n) (calls.Element word x.now)) ≡ true }
 {
@@ -126,7 +126,7 @@ fn on_index<L: Ledger>(
     requires node { n < length store.old.nodes }
     requires fits { is_list (shape_at store.old.world (view_in store.old n)) ≡ true }
     requires allowed { table.lacks (flags_at store.old.world (view_in store.old n)) (spec.needs_of (calls.Index word i)) ≡ false }
-    requires change { ChangesUpTo (2 ^ 62) store.old.world }
+    requires change { ChangesUpTo (2 ^ 63 - 1) store.old.world }
     ensures came { Came result store.old store.new (answered store.old.world (view_in store.old n) (calls.Index word i)) }
     ensures memory { result ≡ Err NoMemory → adds_rows store.old.world (answered store.old.world (view_in store.old n) (calls.Index word i)) ≡ true }
 {
@@ -147,7 +147,7 @@ fn on_indexed<L: Ledger>(
     requires node { n < length store.old.nodes }
     requires fits { is_list (shape_at store.old.world (view_in store.old n)) ≡ true }
     requires allowed { table.lacks (flags_at store.old.world (view_in store.old n)) (spec.needs_of (calls.Indexed word i x.now)) ≡ false }
-    requires change { ChangesUpTo (2 ^ 62) store.old.world }
+    requires change { ChangesUpTo (2 ^ 63 - 1) store.old.world }
     ensures came { Came result store.old store.new (answered store.old.world (view_in store.old n) (calls.Indexed word i x.now)) }
     ensures memory { result ≡ Err NoMemory → adds_rows store.old.world (answered store.old.world (view_in store.old n) (calls.Indexed word i x.now)) ≡ true }
 {
@@ -168,7 +168,7 @@ fn on_pair<L: Ledger>(
     requires node { n < length store.old.nodes }
     requires fits { spec.fits (shape_at store.old.world (view_in store.old n)) (calls.Pair word k.now w.now) ≡ true }
     requires allowed { table.lacks (flags_at store.old.world (view_in store.old n)) (spec.needs_of (calls.Pair word k.now w.now)) ≡ false }
-    requires change { ChangesUpTo (2 ^ 62) store.old.world }
+    requires change { ChangesUpTo (2 ^ 63 - 1) store.old.world }
     ensures came { Came result store.old store.new (answered store.old.world (view_in store.old n) (calls.Pair word k.now w.now)) }
     ensures memory { result ≡ Err NoMemory → adds_rows store.old.world (answered store.old.world (view_in store.old n) (calls.Pair word k.now w.now)) ≡ true }
 {
@@ -194,7 +194,7 @@ pub fn call_with<L: Ledger>(
     requires node { n < length store.old.nodes }
     requires other { other < length store.old.nodes }
     requires fits { spec.fits_with (shape_at store.old.world (view_in store.old n)) word (shape_at store.old.world (view_in store.old other)) ≡ true }
-    requires change { ChangesUpTo (2 ^ 62) store.old.world }
+    requires change { ChangesUpTo (2 ^ 63 - 1) store.old.world }
     ensures came { Came result store.old store.new (answered_with store.old.world (view_in store.old n) word (view_in store.old other)) }
     ensures memory { result ≡ Err NoMemory → wants_memory_with store.old.world (view_in store.old n) word ≡ true }
     ensures changes { (most : ℕ) → ChangesUpTo most store.old.world → ChangesUpTo (most + 1) store.new.world }
@@ -218,7 +218,7 @@ fn carry_out_with<L: Ledger>(
     requires other { other < length store.old.nodes }
     requires fits { spec.fits_with (shape_at store.old.world (view_in store.old n)) word (shape_at store.old.world (view_in store.old other)) ≡ true }
     requires allowed { table.lacks (flags_at store.old.world (view_in store.old n)) (spec.needs_with word) ≡ false }
-    requires change { ChangesUpTo (2 ^ 62) store.old.world }
+    requires change { ChangesUpTo (2 ^ 63 - 1) store.old.world }
     ensures came { Came result store.old store.new (answered_with store.old.world (view_in store.old n) word (view_in store.old other)) }
     ensures memory { result ≡ Err NoMemory → wants_memory_with store.old.world (view_in store.old n) word ≡ true }
 {

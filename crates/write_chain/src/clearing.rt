@@ -16,7 +16,7 @@ use view_steps::Answer;
 /// Removes all that a view shows. What is hidden stays.
 pub(crate) fn clear<L: Ledger>(store: &mut Store, n: AnyRef, steps: &mut Steps<L>) -> Answer
     requires node { n < length store.old.nodes }
-    requires change { ChangesUpTo (2 ^ 62) store.old.world }
+    requires change { ChangesUpTo (2 ^ 63 - 1) store.old.world }
     ensures { Came (Ok result) store.old store.new (removed store.old.world (view_in store.old n) (all_hits (λ item. true) (candidates store.old.world (view_in store.old n))) answers.Done) }
 {
     store.drop_shown(n, &ItemTest::Any, steps);

@@ -31,7 +31,7 @@ fn remove_among<L: Ledger>(
     steps: &mut Steps<L>,
 ) -> Answer
     requires node { n < length store.old.nodes }
-    requires change { ChangesUpTo (2 ^ 62) store.old.world }
+    requires change { ChangesUpTo (2 ^ 63 - 1) store.old.world }
     ensures { Came (Ok result) store.old store.new (removed store.old.world (view_in store.old n) (all_hits (among_passes test.now) (candidates store.old.world (view_in store.old n))) (answers.Truth (list_any (among_passes test.now) (shown store.old.world (view_in store.old n))))) }
 {
     let found = find(store, n, test, steps).is_some();
@@ -50,7 +50,7 @@ pub(crate) fn remove_others<L: Ledger>(
     requires node { n < length store.old.nodes }
     requires other { other < length store.old.nodes }
     requires elements { spec.is_elements (shape_at store.old.world (view_in store.old other)) ≡ true }
-    requires change { ChangesUpTo (2 ^ 62) store.old.world }
+    requires change { ChangesUpTo (2 ^ 63 - 1) store.old.world }
     ensures { Came result store.old store.new (removed store.old.world (view_in store.old n)
         (all_hits (λ item. cond out (not (answering.is_shown (shown store.old.world (view_in store.old other)) item)) (answering.is_shown (shown store.old.world (view_in store.old other)) item)) (candidates store.old.world (view_in store.old n)))
         (answers.Truth (list_any (λ item. cond out (not (answering.is_shown (shown store.old.world (view_in store.old other)) item)) (answering.is_shown (shown store.old.world (view_in store.old other)) item)) (shown store.old.world (view_in store.old n))))) }
@@ -95,7 +95,7 @@ pub(crate) fn add_all<L: Ledger>(
     requires elements { spec.is_elements (shape_at store.old.world (view_in store.old n)) ≡ true }
     requires others { spec.is_elements (shape_at store.old.world (view_in store.old other)) ≡ true }
     requires adds { (flags_at store.old.world (view_in store.old n)).add ≡ true }
-    requires change { ChangesUpTo (2 ^ 62) store.old.world }
+    requires change { ChangesUpTo (2 ^ 63 - 1) store.old.world }
     ensures { Came result store.old store.new (added store.old.world (view_in store.old n) (shown store.old.world (view_in store.old other)) (end_of_view store.old.world (view_in store.old n))
         (answers.Truth (answering.adds_something (spec.is_set (shape_at store.old.world (view_in store.old n))) (shown store.old.world (view_in store.old n)) (shown store.old.world (view_in store.old other))))) }
 {
@@ -124,7 +124,7 @@ pub(crate) fn put_all<L: Ledger>(
     requires map { spec.is_map (shape_at store.old.world (view_in store.old n)) ≡ true }
     requires others { spec.is_map (shape_at store.old.world (view_in store.old other)) ≡ true }
     requires adds { (flags_at store.old.world (view_in store.old n)).add ≡ true }
-    requires change { ChangesUpTo (2 ^ 62) store.old.world }
+    requires change { ChangesUpTo (2 ^ 63 - 1) store.old.world }
     ensures { Came result store.old store.new (added store.old.world (view_in store.old n) (shown store.old.world (view_in store.old other)) spots.Own answers.Done) }
 {
     let b = store.base_of(other);

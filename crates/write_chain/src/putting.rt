@@ -40,7 +40,7 @@ pub(crate) fn add<L: Ledger>(
     requires node { n < length store.old.nodes }
     requires elements { spec.is_elements (shape_at store.old.world (view_in store.old n)) ≡ true }
     requires adds { (flags_at store.old.world (view_in store.old n)).add ≡ true }
-    requires change { ChangesUpTo (2 ^ 62) store.old.world }
+    requires change { ChangesUpTo (2 ^ 63 - 1) store.old.world }
     ensures came { Came result store.old store.new (answered store.old.world (view_in store.old n) (calls.Element on_element.Add x.now)) }
     ensures memory { result ≡ Err NoMemory → adds_rows store.old.world (answered store.old.world (view_in store.old n) (calls.Element on_element.Add x.now)) ≡ true }
 {
@@ -61,7 +61,7 @@ pub(crate) fn add_at<L: Ledger>(
     requires node { n < length store.old.nodes }
     requires list { is_list (shape_at store.old.world (view_in store.old n)) ≡ true }
     requires adds { (flags_at store.old.world (view_in store.old n)).add ≡ true }
-    requires change { ChangesUpTo (2 ^ 62) store.old.world }
+    requires change { ChangesUpTo (2 ^ 63 - 1) store.old.world }
     ensures came { Came result store.old store.new (answered store.old.world (view_in store.old n) (calls.Indexed on_indexed.AddAt i x.now)) }
     ensures memory { result ≡ Err NoMemory → adds_rows store.old.world (answered store.old.world (view_in store.old n) (calls.Indexed on_indexed.AddAt i x.now)) ≡ true }
 {
@@ -87,7 +87,7 @@ pub(crate) fn set_at<L: Ledger>(
     requires node { n < length store.old.nodes }
     requires list { is_list (shape_at store.old.world (view_in store.old n)) ≡ true }
     requires adds { (flags_at store.old.world (view_in store.old n)).add ≡ true }
-    requires change { ChangesUpTo (2 ^ 62) store.old.world }
+    requires change { ChangesUpTo (2 ^ 63 - 1) store.old.world }
     ensures came { Came result store.old store.new (answered store.old.world (view_in store.old n) (calls.Indexed on_indexed.SetAt i x.now)) }
     ensures memory { result ≡ Err NoMemory → adds_rows store.old.world (answered store.old.world (view_in store.old n) (calls.Indexed on_indexed.SetAt i x.now)) ≡ true }
 {
@@ -120,7 +120,7 @@ pub(crate) fn put<L: Ledger>(
     requires node { n < length store.old.nodes }
     requires map { spec.is_map (shape_at store.old.world (view_in store.old n)) ≡ true }
     requires adds { (flags_at store.old.world (view_in store.old n)).add ≡ true }
-    requires change { ChangesUpTo (2 ^ 62) store.old.world }
+    requires change { ChangesUpTo (2 ^ 63 - 1) store.old.world }
     ensures came { Came result store.old store.new (answered store.old.world (view_in store.old n) (calls.Pair on_pair.Put k.now w.now)) }
     ensures memory { result ≡ Err NoMemory → adds_rows store.old.world (answered store.old.world (view_in store.old n) (calls.Pair on_pair.Put k.now w.now)) ≡ true }
 {

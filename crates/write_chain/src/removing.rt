@@ -28,7 +28,7 @@ pub(crate) fn remove_item<L: Ledger>(
     steps: &mut Steps<L>,
 ) -> Answer
     requires node { n < length store.old.nodes }
-    requires change { ChangesUpTo (2 ^ 62) store.old.world }
+    requires change { ChangesUpTo (2 ^ 63 - 1) store.old.world }
     ensures { Came (Ok result) store.old store.new (removed store.old.world (view_in store.old n) (first_hit (same_item item.now) (candidates store.old.world (view_in store.old n))) (answers.Truth (spec.is_shown (shown store.old.world (view_in store.old n)) item.now))) }
 {
     let b = store.base_of(n);
@@ -51,7 +51,7 @@ pub(crate) fn remove_key<L: Ledger>(
 ) -> Answer
     requires node { n < length store.old.nodes }
     requires keyed { is_keyed (shape_at store.old.world (view_in store.old n)) ≡ true }
-    requires change { ChangesUpTo (2 ^ 62) store.old.world }
+    requires change { ChangesUpTo (2 ^ 63 - 1) store.old.world }
     ensures { Came (Ok result) store.old store.new (removed store.old.world (view_in store.old n) (first_hit (spec.has_key k.now) (candidates store.old.world (view_in store.old n))) (answers.Optional (spec.value_shown (shown store.old.world (view_in store.old n)) k.now))) }
 {
     let b = store.base_of(n);
@@ -76,7 +76,7 @@ pub(crate) fn remove_at<L: Ledger>(
     requires node { n < length store.old.nodes }
     requires list { is_list (shape_at store.old.world (view_in store.old n)) ≡ true }
     requires removes { (flags_at store.old.world (view_in store.old n)).remove ≡ true }
-    requires change { ChangesUpTo (2 ^ 62) store.old.world }
+    requires change { ChangesUpTo (2 ^ 63 - 1) store.old.world }
     ensures came { Came result store.old store.new (answered store.old.world (view_in store.old n) (calls.Index on_index.RemoveAt i)) }
     ensures memory { result ≢ Err NoMemory }
 {

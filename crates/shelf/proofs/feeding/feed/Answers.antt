@@ -1,4 +1,4 @@
-use Rattle.std.proofs.Common.{◌^◌, ◌+◌, length, sym, arith}
+use Rattle.std.proofs.Common.{◌^◌, ◌-◌, ◌+◌, length, sym, arith}
 use Rattle.std.proofs.lemmas.Result.{on_err_weaker}
 use Rattle.shelf.proofs.Pieces.{changes_within, ends_piece, goes_on, stops_front, stops_whole, weaker}
 use Rattle.shelf.proofs.Runs.{ok_part}
@@ -6,7 +6,7 @@ use Rattle.shelf.proofs.feeding.feed.Goals as goal
 
 pub take_line-done-requires-clause-changes : goal.take_line-done-requires-clause-changes
 take_line-done-requires-clause-changes g c =
-    weaker (2 ^ 61 + length c.args.piece.now) (2 ^ 62) _ (omega (arith, c.requires.piece))
+    weaker (2 ^ 61 + length c.args.piece.now) (2 ^ 63 - 1) _ (omega (arith, c.requires.piece))
     (changes_within c.args.session.now c.loop-text.session c.args.line.now c.loop-text.line c.args.piece.now c.loop-text.rest.now _ _ c.loop-text.invariant.feeding (2 ^ 61) c.requires.changes)
 
 pub returns-then-is_err-clause-err : goal.returns-then-is_err-clause-err

@@ -1,4 +1,4 @@
-use Rattle.std.proofs.Common.{◌≡◌, ℕ, ◌+◌, ◌^◌, ◌≤◌, List, ◌++◌, length, take, Option, Err, ap, subst, arith}
+use Rattle.std.proofs.Common.{◌≡◌, ℕ, ◌+◌, ◌^◌, ◌-◌, ◌≤◌, List, ◌++◌, length, take, Option, Err, ap, subst, arith}
 use Rattle.std.proofs.lemmas.Result.{err_from_is_err_and}
 use Rattle.std.proofs.lemmas.List.{length-take-le, length-take, take-append-le}
 use Rattle.session.specs.State.{State}
@@ -13,7 +13,7 @@ returns-in_default-clause-ran g c = λ bytes h.
     (c.loop-count.invariant.coming bytes h) c.loop-count.invariant.within c.in_default.ensures.stays
 
 pub finish-requires : goal.finish-requires
-finish-requires g c = weaker c.loop-count.taken (2 ^ 62) _ (omega arith) c.loop-count.invariant.changes
+finish-requires g c = weaker c.loop-count.taken (2 ^ 63 - 1) _ (omega arith) c.loop-count.invariant.changes
 
 pub returns-in_err-finish-clause-ran : goal.returns-in_err-finish-clause-ran
 returns-in_err-finish-clause-ran g c =
