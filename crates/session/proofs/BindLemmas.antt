@@ -1,5 +1,5 @@
 -- A line that gives a name to a view: what is kept, and the outcome.
-use Rattle.std.proofs.Common.{◌≡◌, ◌≢◌, ℕ, ◌+◌, ◌<◌, ◌≤◌, max, List, [], ◌∷◌, ◌++◌, length, take, drop, Option, Some, Result, Ok, Err, inl, inr, sym, ◌∙◌, ap, subst, zero, suc, arith}
+use Rattle.std.proofs.Common.{◌≡◌, ◌≢◌, ℕ, ◌+◌, ◌<◌, ◌≤◌, max, Bool, true, false, List, [], ◌∷◌, ◌++◌, length, take, drop, Option, Some, Result, Ok, Err, inl, inr, refl, sym, ◌∙◌, ap, subst, zero, suc, arith}
 use Rattle.std.specs.Prelude.{codes}
 use Rattle.std.specs.Map.{lookup}
 use Rattle.std.specs.Option.{option_map}
@@ -22,13 +22,13 @@ use Rattle.session.specs.Environment.{IsSettled, NamesWithin, named}
 use Rattle.session.specs.Executing.{Executed}
 use Rattle.session.specs.Following.{IsEnd, end_in, node_of, target_in}
 use Rattle.session.specs.Machine.{let_concluded, let_of, made_name}
-use Rattle.session.specs.Outcomes.{Outcome, refused}
+use Rattle.session.specs.Outcomes.{Outcome, refused, refused_late}
 use Rattle.session.specs.Parts.{Part}
 use Rattle.session.specs.Replying.{Refuses, Said}
 use Rattle.session.specs.State.{State, bound, view_named}
 use Rattle.session.proofs.EvalLemmas.{take_whole}
 use Rattle.session.proofs.FollowLemmas.{named_more}
-use Rattle.session.proofs.NameLemmas.{bound_named, executed_said, named_view, same_text, within_more, within_room, without_room}
+use Rattle.session.proofs.NameLemmas.{bound_named, executed_unchanged, handles-memory, named_view, same_text, within_more, within_room, without_room}
 use Rattle.session.proofs.CallLemmas.{calm_on, does_said}
 use Rattle.session.proofs.ReplyLemmas.{said_refusal}
 use Rattle.session.proofs.SessionLemmas.{executed_silent}
@@ -94,8 +94,8 @@ module _ (s led now : Stored) (names names' : List (List ℕ × ℕ)) (name : Li
     -- the name is bound
     pub executed_bound : (e : End) → Led s led names (Ok e) → KeptNode led now names names' name (node_of e) (max 1 steps) → Said q t u f g (codes "ok" ++ 10 ∷ []) → Executed q state_before state_now (made_name state_before name steps (view_in led (node_of e))) t u f g
     executed_bound e h k said =
-        subst (λ (o : Outcome). Executed q state_before state_now o t u f g) (sym (within_room state_before (max 1 steps) (record { reply = Some (codes "ok"); after = state_after }) (omega (arith, k.room, handles_same s led names (Ok e) h)))) (record {
-          does = does_said q t u state_before state_now state_after (codes "ok") said.memory now_is said.wrote;
+        subst (λ (o : Outcome). Executed q state_before state_now o t u f g) (sym (within_room state_before (max 1 steps) (record { reply = Some (codes "ok"); after = state_after; memory = true }) (omega (arith, k.room, handles_same s led names (Ok e) h)))) (record {
+          does = does_said q t u state_before state_now state_after (codes "ok") true said.memory now_is said.wrote;
           changes = λ n c. calm_on n now.world (subst (λ (w : World). ChangesUpTo n w) (sym world_now) c);
           later = said.later;
           cause = said.cause;
@@ -116,20 +116,20 @@ module _ (s led now : Stored) (names names' : List (List ℕ × ℕ)) (name : Li
         now_is = λ i. record { bases = world_now i; names = names_now i; handles = (ap (λ (x : Stored). x.handles) k.kept ∙ ap (λ (n : ℕ). n + max 1 steps) (handles_same s led names (Ok e) h)) i }
 
     -- the line is refused
-    pub executed_refused : (outcome : Outcome) (why : Refusal) → now ≡ s → names' ≡ names → why ≢ refusal.NoMemory → refused state_before why ≡ outcome → Refuses why q t u f g → Executed q state_before state_now outcome t u f g
-    executed_refused outcome why same unnamed memory is said =
+    pub executed_refused : (outcome : Outcome) (why : Refusal) (memory : Bool) → now ≡ s → names' ≡ names → why ≢ refusal.NoMemory → (let o : Outcome = record { reply = Some (name_of why); after = state_before; memory = memory } in o) ≡ outcome → Refuses why q t u f g → Executed q state_before state_now outcome t u f g
+    executed_refused outcome why wants same unnamed memory is said =
         subst (λ (o : Outcome). Executed q state_before state_now o t u f g) is
-        (subst (λ (x : State). Executed q state_before x (refused state_before why) t u f g) (sym now_is) (executed_said q state_before t u f g (name_of why) (said_refusal why memory said)))
+        (subst (λ (x : State). Executed q state_before x (record { reply = Some (name_of why); after = state_before; memory = wants }) t u f g) (sym now_is) (executed_unchanged q state_before t u f g (name_of why) wants (said_refusal why memory said)))
       where
         now_is : state_now ≡ state_before
         now_is = ap (λ (x : Stored). seen_as x (named x.nodes names')) same ∙ ap (λ (ns : List (List ℕ × ℕ)). seen_as s (named s.nodes ns)) unnamed
 
     pub executed_unkept : (e : End) (why : Refusal) → Led s led names (Ok e) → KeptNothing led now names names' → IsFull led (max 1 steps) why → Refuses why q t u f g → Executed q state_before state_now (made_name state_before name steps (view_in led (node_of e))) t u f g
     executed_unkept e why h k (inl full) said =
-        executed_refused (made_name state_before name steps (view_in led (node_of e))) why (as_before s led names (Ok e) h now k.dropped) k.same (λ m. absurd (let no : refusal.Limit ≡ refusal.NoMemory = sym full.0 ∙ m in cc))
-        (ap (refused state_before) full.0 ∙ sym (without_room state_before (max 1 steps) _ (omega (arith, full.1, handles_same s led names (Ok e) h)))) said
+        executed_refused (made_name state_before name steps (view_in led (node_of e))) why true (as_before s led names (Ok e) h now k.dropped) k.same (λ m. absurd (let no : refusal.Limit ≡ refusal.NoMemory = sym full.0 ∙ m in cc))
+        (ap (refused_late state_before) full.0 ∙ sym (without_room state_before (max 1 steps) _ (omega (arith, full.1, handles_same s led names (Ok e) h)))) said
     executed_unkept e why h k (inr memory) said =
-        executed_silent s now names names' (made_name state_before name steps (view_in led (node_of e))) (as_before s led names (Ok e) h now k.dropped) k.same (subst (λ (x : Refusal). Refuses x q t u f g) memory said)
+        executed_silent s now names names' (made_name state_before name steps (view_in led (node_of e))) (as_before s led names (Ok e) h now k.dropped) k.same (handles-memory state_before (max 1 steps) _ refl) (subst (λ (x : Refusal). Refuses x q t u f g) memory said)
 
     -- the outcome, by what was kept and what was said
     pub executed_kept : (r : Result (Unit {0}) Refusal) (end : Result End Refusal) → Led s led names end → Keeps r end led now names names' name steps → Answers r q t u f g → Executed q state_before state_now (let_concluded state_before name steps (Ok (end_in led end))) t u f g
@@ -141,7 +141,7 @@ module _ (s led now : Stored) (names names' : List (List ℕ × ℕ)) (name : Li
     executed_kept (Err why) (Ok (end.Call n call)) h k said = executed_unkept (end.Call n call) why h k.0 k.1 said
     executed_kept (Err why) (Ok (end.With n word other)) h k said = executed_unkept (end.With n word other) why h k.0 k.1 said
     executed_kept (Err why) (Err because) h k said =
-        executed_refused (refused state_before because) why (as_before s led names (Err because) h now k.0.dropped) k.0.same (λ m. h.ends (sym k.1 ∙ m)) (ap (refused state_before) k.1) said
+        executed_refused (refused state_before because) why false (as_before s led names (Err because) h now k.0.dropped) k.0.same (λ m. h.ends (sym k.1 ∙ m)) (ap (refused state_before) k.1) said
 
     pub executed_let : (headname : List ℕ) (head : ℕ) (parts : List Part) (r : Result (Unit {0}) Refusal) (end : Result End Refusal) → steps ≡ length parts → lookup (same_text headname) names ≡ Some head → Led s led names end
         → target_in s names purpose.Name head parts ≡ Ok (end_in led end) → Keeps r end led now names names' name steps → Answers r q t u f g

@@ -13,6 +13,7 @@ use Rattle.view_steps.specs.Answering.{Answered, answered, answered_with}
 use Rattle.view_steps.specs.Answers.{answer_text}
 use Rattle.view_steps.specs.Calls.{fits, fits_with}
 use Rattle.view_steps.specs.Limits.{ChangesUpTo}
+use Rattle.view_steps.specs.Memory.{adds_rows, wants_memory_with}
 use Rattle.view_steps.specs.Refusals.{name_of}
 use Rattle.view_steps.specs.Views.{View, World, shape_at}
 use Rattle.write_chain.specs.Calls.{Came as Answers}
@@ -36,10 +37,10 @@ stays None = tt
 stays (Some told) = refl
 
 -- what a line does whose reply was said
-pub does_said : (r : Result (Unit {0}) ExecFault) (t u : Option (List ℕ)) (before now after : State) (text : List ℕ) → r ≢ Err NoMemory → now ≡ after → Wrote r t u (text ++ 10 ∷ []) → Does r before now (record { reply = Some text; after = after }) t u
-does_said (Ok x) t u before now after text memory e w = (e, w)
-does_said (Err WriteFault) t u before now after text memory e w = w
-does_said (Err NoMemory) t u before now after text memory e w = absurd (memory refl)
+pub does_said : (r : Result (Unit {0}) ExecFault) (t u : Option (List ℕ)) (before now after : State) (text : List ℕ) (memory : Bool) → r ≢ Err NoMemory → now ≡ after → Wrote r t u (text ++ 10 ∷ []) → Does r before now (record { reply = Some text; after = after; memory = memory }) t u
+does_said (Ok x) t u before now after text m memory e w = (e, w)
+does_said (Err WriteFault) t u before now after text m memory e w = w
+does_said (Err NoMemory) t u before now after text m memory e w = absurd (memory refl)
 
 -- no change number rises by more than one
 abbrev pub IsCalm : World → World → Type 0
@@ -47,32 +48,35 @@ IsCalm before now = (n : ℕ) → ChangesUpTo n before → ChangesUpTo (n + 1) n
 
 module _ {r : Result (Unit {0}) ExecFault} {t u : Option (List ℕ)} {f g : ℕ} where
   -- a reply, and other bases
-  pub came_with : (s now : Stored) (world : World) (outcome : State → Outcome) (text : List ℕ) → now ≡ with_world s world → IsCalm s.world now.world
-      → ((names : List (List ℕ × View)) → (let o : Outcome = record { reply = Some text; after = with_bases (seen_as s names) world } in o) ≡ outcome (seen_as s names)) → Said r t u f g (text ++ 10 ∷ []) → Came r s now outcome t u f g
-  came_with s now world outcome text e calm is said = record {
+  pub came_with : (s now : Stored) (world : World) (outcome : State → Outcome) (text : List ℕ) (memory : Bool) → now ≡ with_world s world → IsCalm s.world now.world
+      → ((names : List (List ℕ × View)) → (let o : Outcome = record { reply = Some text; after = with_bases (seen_as s names) world; memory = memory } in o) ≡ outcome (seen_as s names)) → Said r t u f g (text ++ 10 ∷ []) → Came r s now outcome t u f g
+  came_with s now world outcome text memory e calm is said = record {
     nodes = ap (λ (x : Stored). x.nodes) e;
     lasting = ap (λ (x : Stored). x.lasting) e;
     handles = ap (λ (x : Stored). x.handles) e;
     executed = λ names. subst (λ (o : Outcome). Executed r (seen_as s names) (seen_as now names) o t u f g) (is names) (record {
-      does = does_said r t u (seen_as s names) (seen_as now names) (with_bases (seen_as s names) world) text said.memory (ap (λ (x : Stored). seen_as x names) e) said.wrote;
+      does = does_said r t u (seen_as s names) (seen_as now names) (with_bases (seen_as s names) world) text memory said.memory (ap (λ (x : Stored). seen_as x names) e) said.wrote;
       changes = calm;
       later = said.later;
       cause = said.cause;
     });
   }
 
-  -- a reply that changes nothing
+  -- a reply that changes nothing, and before which memory may run out or may not
+  pub came_unchanged : (s now : Stored) (outcome : State → Outcome) (text : List ℕ) (memory : Bool) → now ≡ s → ((names : List (List ℕ × View)) → (let o : Outcome = record { reply = Some text; after = seen_as s names; memory = memory } in o) ≡ outcome (seen_as s names)) → Said r t u f g (text ++ 10 ∷ []) → Came r s now outcome t u f g
+  came_unchanged s now outcome text memory e is said = came_with s now s.world outcome text memory e (λ n h. subst (λ (x : Stored). ChangesUpTo (n + 1) x.world) (sym e) (calm_on n s.world h)) is said
+
   pub came_said : (s now : Stored) (outcome : State → Outcome) (text : List ℕ) → now ≡ s → ((names : List (List ℕ × View)) → says (seen_as s names) text ≡ outcome (seen_as s names)) → Said r t u f g (text ++ 10 ∷ []) → Came r s now outcome t u f g
-  came_said s now outcome text e is said = came_with s now s.world outcome text e (λ n h. subst (λ (x : Stored). ChangesUpTo (n + 1) x.world) (sym e) (calm_on n s.world h)) is said
+  came_said s now outcome text e is said = came_unchanged s now outcome text false e is said
 
 -- want of memory leaves all as it was
-pub came_no_memory : (s now : Stored) (outcome : State → Outcome) (t : Option (List ℕ)) (f : ℕ) → now ≡ s → Came {T = Unit {0}} (Err NoMemory) s now outcome t t f f
-came_no_memory s now outcome t f e = record {
+pub came_no_memory : (s now : Stored) (outcome : State → Outcome) (t : Option (List ℕ)) (f : ℕ) → now ≡ s → ((names : List (List ℕ × View)) → (outcome (seen_as s names)).memory ≡ true) → Came {T = Unit {0}} (Err NoMemory) s now outcome t t f f
+came_no_memory s now outcome t f e wants = record {
   nodes = ap (λ (x : Stored). x.nodes) e;
   lasting = ap (λ (x : Stored). x.lasting) e;
   handles = ap (λ (x : Stored). x.handles) e;
   executed = λ names. record {
-    does = (ap (λ (x : Stored). seen_as x names) e, stays t);
+    does = (ap (λ (x : Stored). seen_as x names) e, stays t, wants names);
     changes = λ n h. subst (λ (x : Stored). ChangesUpTo (n + 1) x.world) (sym e) (calm_on n s.world h);
     later = omega arith;
     cause = λ q. cc;
@@ -80,23 +84,30 @@ came_no_memory s now outcome t f e = record {
 }
 
 -- the same, as a refusal
-pub came_silent : {r : Result (Unit {0}) ExecFault} {t u : Option (List ℕ)} {f g : ℕ} (s now : Stored) (outcome : State → Outcome) → now ≡ s → Refuses refusal.NoMemory r t u f g → Came r s now outcome t u f g
-came_silent {r} {t} {u} {f} {g} s now outcome e said =
+pub came_silent : {r : Result (Unit {0}) ExecFault} {t u : Option (List ℕ)} {f g : ℕ} (s now : Stored) (outcome : State → Outcome) → now ≡ s → ((names : List (List ℕ × View)) → (outcome (seen_as s names)).memory ≡ true) → Refuses refusal.NoMemory r t u f g → Came r s now outcome t u f g
+came_silent {r} {t} {u} {f} {g} s now outcome e wants said =
     subst (λ (x : Result (Unit {0}) ExecFault). Came x s now outcome t u f g) (sym said.0)
-    (subst (λ (x : Option (List ℕ)). Came {T = Unit {0}} (Err NoMemory) s now outcome t x f g) (sym said.1) (subst (λ (x : ℕ). Came {T = Unit {0}} (Err NoMemory) s now outcome t t f x) (sym said.2) (came_no_memory s now outcome t f e)))
+    (subst (λ (x : Option (List ℕ)). Came {T = Unit {0}} (Err NoMemory) s now outcome t x f g) (sym said.1) (subst (λ (x : ℕ). Came {T = Unit {0}} (Err NoMemory) s now outcome t t f x) (sym said.2) (came_no_memory s now outcome t f e wants)))
+
+-- a reply to a call tells whether memory may have run out in its place
+replied-memory : (state : State) (memory : Bool) (done : Answered) → (replied state memory done).memory ≡ memory
+replied-memory state memory (Ok done) = refl
+replied-memory state memory (Err why) = refl
 
 module _ {r : Result (Unit {0}) ExecFault} {t u : Option (List ℕ)} {f g : ℕ} where
-  came_refused : (why : Refusal) (s now : Stored) (outcome : State → Outcome) (done : Answered) → Answers (Err why) s now done → ((names : List (List ℕ × View)) → replied (seen_as s names) done ≡ outcome (seen_as s names)) → Refuses why r t u f g → Came r s now outcome t u f g
-  came_refused refusal.NoMemory s now outcome done answers is said = came_silent s now outcome answers.0 said
-  came_refused why s now outcome done answers is said =
-      came_said s now outcome (name_of why) answers.0 (λ names. ap (replied (seen_as s names)) (sym answers.1) ∙ is names) said
+  came_refused : (why : Refusal) (s now : Stored) (outcome : State → Outcome) (memory : Bool) (done : Answered) → Answers (Err why) s now done → ((names : List (List ℕ × View)) → replied (seen_as s names) memory done ≡ outcome (seen_as s names))
+      → (why ≡ refusal.NoMemory → memory ≡ true) → Refuses why r t u f g → Came r s now outcome t u f g
+  came_refused refusal.NoMemory s now outcome memory done answers is wants said = came_silent s now outcome answers.0 (λ names. sym (ap (λ (o : Outcome). o.memory) (is names)) ∙ replied-memory (seen_as s names) memory done ∙ wants refl) said
+  came_refused why s now outcome memory done answers is wants said =
+      came_unchanged s now outcome (name_of why) memory answers.0 (λ names. ap (replied (seen_as s names) memory) (sym answers.1) ∙ is names) said
 
   -- what was said of what a call answered
-  pub came_told : (answer : Result Answer Refusal) (s now : Stored) (outcome : State → Outcome) (done : Answered) → Answers answer s now done → IsCalm s.world now.world → ((names : List (List ℕ × View)) → replied (seen_as s names) done ≡ outcome (seen_as s names)) → Tells answer r t u f g → Came r s now outcome t u f g
-  came_told (Ok answer) s now outcome (Ok done) answers calm is said =
-      came_with s now done.1 outcome (answer_text answer) answers.1 calm (λ names. ap (λ (a : Answer). let o : Outcome = record { reply = Some (answer_text a); after = with_bases (seen_as s names) done.1 } in o) answers.0 ∙ is names) said
-  came_told (Ok answer) s now outcome (Err why) answers calm is said = absurd answers
-  came_told (Err why) s now outcome done answers calm is said = came_refused why s now outcome done answers is said
+  pub came_told : (answer : Result Answer Refusal) (s now : Stored) (outcome : State → Outcome) (memory : Bool) (done : Answered) → Answers answer s now done → IsCalm s.world now.world → ((names : List (List ℕ × View)) → replied (seen_as s names) memory done ≡ outcome (seen_as s names))
+      → (answer ≡ Err refusal.NoMemory → memory ≡ true) → Tells answer r t u f g → Came r s now outcome t u f g
+  came_told (Ok answer) s now outcome memory (Ok done) answers calm is wants said =
+      came_with s now done.1 outcome (answer_text answer) memory answers.1 calm (λ names. ap (λ (a : Answer). let o : Outcome = record { reply = Some (answer_text a); after = with_bases (seen_as s names) done.1; memory = memory } in o) answers.0 ∙ is names) said
+  came_told (Ok answer) s now outcome memory (Err why) answers calm is wants said = absurd answers
+  came_told (Err why) s now outcome memory done answers calm is wants said = came_refused why s now outcome memory done answers is (λ e. wants (ap (λ (w : Refusal). Err w) e)) said
 
 -- ---- calls, by whether the views have them
 
@@ -109,24 +120,25 @@ by_test : (b c : Bool) (it other : Outcome) → b ≡ c → cond b it other ≡ 
 by_test b c it other e = ap (λ (d : Bool). cond d it other) e
 
 module _ (s : Stored) (view : View) (of : Shape) (known : of ≡ shape_at s.world view) (it : Call) where
-  came_by_fit : (fit : Bool) → fit ≡ fits of it → (names : List (List ℕ × View)) → cond fit (replied (seen_as s names) (answered s.world view it)) (says (seen_as s names) not_there) ≡ called (seen_as s names) view it
-  came_by_fit fit test names = by_test fit (fits (shape_at s.world view) it) (replied (seen_as s names) (answered s.world view it)) (says (seen_as s names) not_there) (test ∙ ap (λ (shape : Shape). fits shape it) known)
+  came_by_fit : (fit : Bool) → fit ≡ fits of it → (names : List (List ℕ × View)) → cond fit (replied (seen_as s names) (adds_rows s.world (answered s.world view it)) (answered s.world view it)) (says (seen_as s names) not_there) ≡ called (seen_as s names) view it
+  came_by_fit fit test names = by_test fit (fits (shape_at s.world view) it) (replied (seen_as s names) (adds_rows s.world (answered s.world view it)) (answered s.world view it)) (says (seen_as s names) not_there) (test ∙ ap (λ (shape : Shape). fits shape it) known)
 
   pub call_unfit : {r : Result (Unit {0}) ExecFault} {t u : Option (List ℕ)} {f g : ℕ} → false ≡ fits of it → Said r t u f g (not_there ++ 10 ∷ []) → Came r s s (λ state. called state view it) t u f g
   call_unfit test said = came_said s s (λ state. called state view it) not_there refl (came_by_fit false test) said
 
-  pub call_told : {r : Result (Unit {0}) ExecFault} {t u : Option (List ℕ)} {f g : ℕ} (now : Stored) (answer : Result Answer Refusal) → true ≡ fits of it → Answers answer s now (answered s.world view it) → IsCalm s.world now.world → Tells answer r t u f g
-      → Came r s now (λ state. called state view it) t u f g
-  call_told now answer test answers calm said = came_told answer s now (λ state. called state view it) (answered s.world view it) answers calm (came_by_fit true test) said
+  pub call_told : {r : Result (Unit {0}) ExecFault} {t u : Option (List ℕ)} {f g : ℕ} (now : Stored) (answer : Result Answer Refusal) → true ≡ fits of it → Answers answer s now (answered s.world view it) → IsCalm s.world now.world
+      → (answer ≡ Err refusal.NoMemory → adds_rows s.world (answered s.world view it) ≡ true) → Tells answer r t u f g → Came r s now (λ state. called state view it) t u f g
+  call_told now answer test answers calm wants said = came_told answer s now (λ state. called state view it) (adds_rows s.world (answered s.world view it)) (answered s.world view it) answers calm (came_by_fit true test) wants said
 
 module _ (s : Stored) (view other : View) (of others : Shape) (known : of ≡ shape_at s.world view) (known_others : others ≡ shape_at s.world other) (word : OnOther) where
-  came_by_fit_with : (fit : Bool) → fit ≡ fits_with of word others → (names : List (List ℕ × View)) → cond fit (replied (seen_as s names) (answered_with s.world view word other)) (says (seen_as s names) not_there) ≡ called_with (seen_as s names) view word other
+  came_by_fit_with : (fit : Bool) → fit ≡ fits_with of word others → (names : List (List ℕ × View)) → cond fit (replied (seen_as s names) (wants_memory_with s.world view word) (answered_with s.world view word other)) (says (seen_as s names) not_there) ≡ called_with (seen_as s names) view word other
   came_by_fit_with fit test names =
-      by_test fit (fits_with (shape_at s.world view) word (shape_at s.world other)) (replied (seen_as s names) (answered_with s.world view word other)) (says (seen_as s names) not_there) (test ∙ λ i. fits_with (known i) word (known_others i))
+      by_test fit (fits_with (shape_at s.world view) word (shape_at s.world other)) (replied (seen_as s names) (wants_memory_with s.world view word) (answered_with s.world view word other)) (says (seen_as s names) not_there) (test ∙ λ i. fits_with (known i) word (known_others i))
 
   pub call_with_unfit : {r : Result (Unit {0}) ExecFault} {t u : Option (List ℕ)} {f g : ℕ} → false ≡ fits_with of word others → Said r t u f g (not_there ++ 10 ∷ []) → Came r s s (λ state. called_with state view word other) t u f g
   call_with_unfit test said = came_said s s (λ state. called_with state view word other) not_there refl (came_by_fit_with false test) said
 
-  pub call_with_told : {r : Result (Unit {0}) ExecFault} {t u : Option (List ℕ)} {f g : ℕ} (now : Stored) (answer : Result Answer Refusal) → true ≡ fits_with of word others → Answers answer s now (answered_with s.world view word other) → IsCalm s.world now.world → Tells answer r t u f g
-      → Came r s now (λ state. called_with state view word other) t u f g
-  call_with_told now answer test answers calm said = came_told answer s now (λ state. called_with state view word other) (answered_with s.world view word other) answers calm (came_by_fit_with true test) said
+  pub call_with_told : {r : Result (Unit {0}) ExecFault} {t u : Option (List ℕ)} {f g : ℕ} (now : Stored) (answer : Result Answer Refusal) → true ≡ fits_with of word others → Answers answer s now (answered_with s.world view word other) → IsCalm s.world now.world
+      → (answer ≡ Err refusal.NoMemory → wants_memory_with s.world view word ≡ true) → Tells answer r t u f g → Came r s now (λ state. called_with state view word other) t u f g
+  call_with_told now answer test answers calm wants said =
+      came_told answer s now (λ state. called_with state view word other) (wants_memory_with s.world view word) (answered_with s.world view word other) answers calm (came_by_fit_with true test) wants said

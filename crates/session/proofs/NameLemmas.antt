@@ -22,7 +22,7 @@ use Rattle.session.specs.Coming.{seen_as}
 use Rattle.session.specs.Environment.{named, NamesWithin, IsSettled}
 use Rattle.session.specs.Executing.{Executed}
 use Rattle.session.specs.Machine.{made_new, within_handles}
-use Rattle.session.specs.Outcomes.{Outcome, refused, says}
+use Rattle.session.specs.Outcomes.{Outcome, refused_late, says}
 use Rattle.session.specs.Replying.{Said}
 use Rattle.session.specs.State.{State, bound, view_named}
 use Rattle.session.proofs.CallLemmas.{calm_on, does_said}
@@ -55,10 +55,18 @@ found_within k (x ∷ names) name n h e = by (same_text name x.0) e (found_withi
 
 -- an outcome for which there are handles comes as it is, and another is refused
 pub within_room : (state : State) (n : ℕ) (o : Outcome) → state.handles + n ≤ most_handles → within_handles state n o ≡ o
-within_room state n o le = let test : nat_lt most_handles (state.handles + n) ≡ false = grind (arith, nat_tests) in ap (λ (b : Bool). cond b (refused state Limit) o) test
+within_room state n o le = let test : nat_lt most_handles (state.handles + n) ≡ false = grind (arith, nat_tests) in ap (λ (b : Bool). cond b (refused_late state Limit) o) test
 
-pub without_room : (state : State) (n : ℕ) (o : Outcome) → most_handles < state.handles + n → within_handles state n o ≡ refused state Limit
-without_room state n o lt = let test : nat_lt most_handles (state.handles + n) ≡ true = grind (arith, nat_tests) in ap (λ (b : Bool). cond b (refused state Limit) o) test
+pub without_room : (state : State) (n : ℕ) (o : Outcome) → most_handles < state.handles + n → within_handles state n o ≡ refused_late state Limit
+without_room state n o lt = let test : nat_lt most_handles (state.handles + n) ≡ true = grind (arith, nat_tests) in ap (λ (b : Bool). cond b (refused_late state Limit) o) test
+
+-- and memory may run out before either
+pub handles-memory : (state : State) (n : ℕ) (o : Outcome) → o.memory ≡ true → (within_handles state n o).memory ≡ true
+handles-memory state n o wants = by (nat_lt most_handles (state.handles + n))
+  where
+    by : (b : Bool) → (cond b (refused_late state Limit) o).memory ≡ true
+    by true = refl
+    by false = wants
 
 -- ---- a new name
 
@@ -132,8 +140,8 @@ module _ (s now : Stored) (names names' : List (List ℕ × ℕ)) (name : List �
   now_is = λ i. record { bases = worlds i; names = names_now i; handles = (ap (λ (x : Stored). x.handles) h.grown) i }
 
   -- the line is not refused
-  roomy : within_handles state_before 1 (record { reply = Some (codes "ok"); after = state_after }) ≡ (let o : Outcome = record { reply = Some (codes "ok"); after = state_after } in o)
-  roomy = within_room state_before 1 (record { reply = Some (codes "ok"); after = state_after }) (omega (arith, h.room))
+  roomy : within_handles state_before 1 (record { reply = Some (codes "ok"); after = state_after; memory = true }) ≡ (let o : Outcome = record { reply = Some (codes "ok"); after = state_after; memory = true } in o)
+  roomy = within_room state_before 1 (record { reply = Some (codes "ok"); after = state_after; memory = true }) (omega (arith, h.room))
 
   calm_more : (n : ℕ) (world : World) → ChangesUpTo n world → ChangesUpTo (n + 1) (world ++ empty_base kind ∷ [])
   calm_more n [] c = (omega arith, tt)
@@ -141,12 +149,15 @@ module _ (s now : Stored) (names names' : List (List ℕ × ℕ)) (name : List �
 
   pub executed_new : (r : Result (Unit {0}) ExecFault) (t u : Option (List ℕ)) (f g : ℕ) → Said r t u f g (codes "ok" ++ 10 ∷ []) → Executed r state_before (seen_as now (named now.nodes names')) (made_new state_before name kind) t u f g
   executed_new r t u f g said = subst (λ (o : Outcome). Executed r state_before (seen_as now (named now.nodes names')) o t u f g) (sym roomy) (record {
-    does = does_said r t u state_before (seen_as now (named now.nodes names')) state_after (codes "ok") said.memory now_is said.wrote;
+    does = does_said r t u state_before (seen_as now (named now.nodes names')) state_after (codes "ok") true said.memory now_is said.wrote;
     changes = λ n c. subst (λ (w : World). ChangesUpTo (n + 1) w) (sym worlds) (calm_more n s.world c);
     later = said.later;
     cause = said.cause;
   })
 
--- a reply that changes nothing
+-- a reply that changes nothing, and before which memory may run out or may not
+pub executed_unchanged : (r : Result (Unit {0}) ExecFault) (state : State) (t u : Option (List ℕ)) (f g : ℕ) (text : List ℕ) (memory : Bool) → Said r t u f g (text ++ 10 ∷ []) → Executed r state state (record { reply = Some text; after = state; memory = memory }) t u f g
+executed_unchanged r state t u f g text memory said = record { does = does_said r t u state state state text memory said.memory refl said.wrote; changes = λ n c. calm_on n state.bases c; later = said.later; cause = said.cause }
+
 pub executed_said : (r : Result (Unit {0}) ExecFault) (state : State) (t u : Option (List ℕ)) (f g : ℕ) (text : List ℕ) → Said r t u f g (text ++ 10 ∷ []) → Executed r state state (says state text) t u f g
-executed_said r state t u f g text said = record { does = does_said r t u state state state text said.memory refl said.wrote; changes = λ n c. calm_on n state.bases c; later = said.later; cause = said.cause }
+executed_said r state t u f g text said = executed_unchanged r state t u f g text false said

@@ -25,7 +25,7 @@ use Rattle.session.specs.Environment.{named}
 use Rattle.session.specs.Executing.{Executed}
 use Rattle.session.specs.Following.{target_in}
 use Rattle.session.specs.Machine.{concluded, eval_of, let_concluded, let_of, made_new, new_of, step_of}
-use Rattle.session.specs.Outcomes.{Outcome, says, refused}
+use Rattle.session.specs.Outcomes.{Outcome, says, refused_late}
 use Rattle.session.specs.Parts.{Part, parts_in}
 use Rattle.session.specs.Replying.{Refuses, Said}
 use Rattle.session.specs.declared.typing.Purpose.TheVariants as purpose
@@ -37,7 +37,7 @@ use Rattle.view_steps.specs.Refusals.{name_of}
 use Rattle.view_steps.specs.declared.refusals.Refusal.TheVariants as refusal
 use Rattle.session.specs.State.{State, view_named}
 use Rattle.view_steps.specs.Limits.{ChangesUpTo}
-use Rattle.session.proofs.NameLemmas.{executed_said, named_view, same_text, without_room}
+use Rattle.session.proofs.NameLemmas.{executed_said, executed_unchanged, handles-memory, named_view, same_text, without_room}
 use Rattle.session.proofs.CallLemmas.{calm_on, stays}
 use Rattle.session.proofs.ReplyLemmas.{takes_none}
 use Rattle.session.proofs.TextLemmas.{eval_alike, let_alike}
@@ -48,7 +48,7 @@ module _ (state : State) (line : List ℕ) where
   abbrev stepped : Tree (Call Slice) → Outcome
   stepped t = step_of state (map_tree (in_pieces line) t)
 
-  pub on_blank : (parts : List Placed) (t : Tree (Call Slice)) → line_view form.Blank parts ≡ map_tree part_of t → (let o : Outcome = record { reply = None; after = state } in o) ≡ stepped t
+  pub on_blank : (parts : List Placed) (t : Tree (Call Slice)) → line_view form.Blank parts ≡ map_tree part_of t → (let o : Outcome = record { reply = None; after = state; memory = false } in o) ≡ stepped t
   on_blank parts tree.Blank e = refl
   on_blank parts tree.Long e = cc
   on_blank parts tree.Syntax e = cc
@@ -152,23 +152,23 @@ module _ {r : Result (Unit {0}) ExecFault} {t u : Option (List ℕ)} {f g : ℕ}
   pub executed_from : (before before' now : State) (outcome : State → Outcome) (wanted : Outcome) → before ≡ before' → outcome before' ≡ wanted → Executed r before now (outcome before) t u f g → Executed r before' now wanted t u f g
   executed_from before before' now outcome wanted e is h = subst (λ (o : Outcome). Executed r before' now o t u f g) is (subst (λ (x : State). Executed r x now (outcome x) t u f g) e h)
 
-pub executed_blank : (state now : State) (t : Option (List ℕ)) (f : ℕ) → now ≡ state → Executed {T = Unit {0}} (Ok tt) state now (record { reply = None; after = state }) t t f f
+pub executed_blank : (state now : State) (t : Option (List ℕ)) (f : ℕ) → now ≡ state → Executed {T = Unit {0}} (Ok tt) state now (record { reply = None; after = state; memory = false }) t t f f
 executed_blank state now t f e = record { does = (e, takes_none t); changes = λ n c. calm_on n now.bases (subst (λ (x : State). ChangesUpTo n x.bases) (sym e) c); later = omega arith; cause = λ q. cc }
 
-pub executed_no_memory : (state now : State) (outcome : Outcome) (t : Option (List ℕ)) (f : ℕ) → now ≡ state → Executed {T = Unit {0}} (Err NoMemory) state now outcome t t f f
-executed_no_memory state now outcome t f e = record { does = (e, stays t); changes = λ n c. calm_on n now.bases (subst (λ (x : State). ChangesUpTo n x.bases) (sym e) c); later = omega arith; cause = λ q. cc }
+pub executed_no_memory : (state now : State) (outcome : Outcome) (t : Option (List ℕ)) (f : ℕ) → now ≡ state → outcome.memory ≡ true → Executed {T = Unit {0}} (Err NoMemory) state now outcome t t f f
+executed_no_memory state now outcome t f e wants = record { does = (e, stays t, wants); changes = λ n c. calm_on n now.bases (subst (λ (x : State). ChangesUpTo n x.bases) (sym e) c); later = omega arith; cause = λ q. cc }
 
 -- what a store and names are seen as where they are as before
 pub seen_same : (s now : Stored) (names names' : List (List ℕ × ℕ)) → now ≡ s → names' ≡ names → seen_as now (named now.nodes names') ≡ seen_as s (named s.nodes names)
 seen_same s now names names' e is = ap (λ (x : Stored). seen_as x (named x.nodes names')) e ∙ ap (λ (ns : List (List ℕ × ℕ)). seen_as s (named s.nodes ns)) is
 
 -- want of memory, as a refusal
-pub executed_silent : {q : Result (Unit {0}) ExecFault} {t u : Option (List ℕ)} {f g : ℕ} (s now : Stored) (names names' : List (List ℕ × ℕ)) (outcome : Outcome) → now ≡ s → names' ≡ names → Refuses refusal.NoMemory q t u f g
+pub executed_silent : {q : Result (Unit {0}) ExecFault} {t u : Option (List ℕ)} {f g : ℕ} (s now : Stored) (names names' : List (List ℕ × ℕ)) (outcome : Outcome) → now ≡ s → names' ≡ names → outcome.memory ≡ true → Refuses refusal.NoMemory q t u f g
     → Executed q (seen_as s (named s.nodes names)) (seen_as now (named now.nodes names')) outcome t u f g
-executed_silent {q} {t} {u} {f} {g} s now names names' outcome same unnamed said =
+executed_silent {q} {t} {u} {f} {g} s now names names' outcome same unnamed wants said =
     subst (λ (x : Result (Unit {0}) ExecFault). Executed x before after outcome t u f g) (sym said.0)
     (subst (λ (x : Option (List ℕ)). Executed {T = Unit {0}} (Err NoMemory) before after outcome t x f g) (sym said.1)
-    (subst (λ (x : ℕ). Executed {T = Unit {0}} (Err NoMemory) before after outcome t t f x) (sym said.2) (executed_no_memory before after outcome t f (seen_same s now names names' same unnamed))))
+    (subst (λ (x : ℕ). Executed {T = Unit {0}} (Err NoMemory) before after outcome t t f x) (sym said.2) (executed_no_memory before after outcome t f (seen_same s now names names' same unnamed) wants)))
   where
     before : State
     before = seen_as s (named s.nodes names)
@@ -209,10 +209,10 @@ pub executed_full : {q : Result (Unit {0}) ExecFault} {t u : Option (List ℕ)} 
     → ((why ≡ refusal.Limit) × (s.handles ≡ most_handles)) ⊎ (why ≡ refusal.NoMemory) → Refuses why q t u f g
     → Executed q (seen_as s (named s.nodes names)) (seen_as now (named now.nodes names')) (made_new (seen_as s (named s.nodes names)) name kind) t u f g
 executed_full {q} {t} {u} {f} {g} s now names names' name kind why same unnamed (inr memory) said =
-    executed_silent s now names names' _ same unnamed (subst (λ (x : Refusal). Refuses x q t u f g) memory said)
+    executed_silent s now names names' _ same unnamed (handles-memory (seen_as s (named s.nodes names)) 1 _ refl) (subst (λ (x : Refusal). Refuses x q t u f g) memory said)
 executed_full {q} {t} {u} {f} {g} s now names names' name kind why same unnamed (inl full) said =
     subst (λ (o : Outcome). Executed q before (seen_as now (named now.nodes names')) o t u f g) (sym (without_room before 1 _ (omega (arith, full.1))))
-    (subst (λ (x : State). Executed q before x (refused before refusal.Limit) t u f g) (sym (seen_same s now names names' same unnamed)) (executed_said q before t u f g (name_of refusal.Limit) told))
+    (subst (λ (x : State). Executed q before x (refused_late before refusal.Limit) t u f g) (sym (seen_same s now names names' same unnamed)) (executed_unchanged q before t u f g (name_of refusal.Limit) true told))
   where
     before : State
     before = seen_as s (named s.nodes names)

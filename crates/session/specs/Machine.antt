@@ -1,5 +1,5 @@
 -- One line: its reply, and the state after it.
-use Rattle.std.specs.Prelude.{ℕ, ◌+◌, max, nat_lt, List, [], ◌∷◌, ◌++◌, length, Option, None, Some, Result, Ok, Err, codes, if◌then◌else◌}
+use Rattle.std.specs.Prelude.{ℕ, ◌+◌, true, false, max, nat_lt, List, [], ◌∷◌, ◌++◌, length, Option, None, Some, Result, Ok, Err, codes, if◌then◌else◌}
 use Rattle.view_steps.specs.declared.kinds.Kind.{Kind}
 use Rattle.view_steps.specs.declared.refusals.Refusal.{Refusal}
 use Rattle.view_steps.specs.declared.refusals.Refusal.TheVariants.{Limit}
@@ -17,7 +17,7 @@ use Rattle.session.specs.declared.typing.Fault.{Fault}
 use Rattle.session.specs.declared.typing.Purpose.{Purpose}
 use Rattle.session.specs.declared.typing.Purpose.TheVariants as purpose
 use Rattle.session.specs.Called.{called, called_with}
-use Rattle.session.specs.Outcomes.{Outcome, says, refused}
+use Rattle.session.specs.Outcomes.{Outcome, says, refused, refused_late}
 use Rattle.session.specs.Parts.{Part}
 use Rattle.session.specs.State.{State, view_named, bound}
 use Rattle.session.specs.Typing.{Ending, Typing, shows, calls, calls_with, fault_text, typed_words}
@@ -73,15 +73,16 @@ eval_of state (Some view) parts = eval_on state view parts
 
 -- ---- a name for a view, and a new base
 
--- an outcome that takes so many handles
+-- an outcome that takes so many handles; memory may run out before they are counted
 abbrev pub within_handles : State → ℕ → Outcome → Outcome
-within_handles state n outcome = if nat_lt most_handles (state.handles + n) then refused state Limit else outcome
+within_handles state n outcome = if nat_lt most_handles (state.handles + n) then refused_late state Limit else outcome
 
 -- a view gets a name, for as many handles as there are steps and at least one
 abbrev pub made_name : State → List ℕ → ℕ → View → Outcome
 made_name state name steps view = within_handles state (max 1 steps) (record {
   reply = Some (codes "ok");
   after = record { bases = state.bases; names = bound state.names name view; handles = state.handles + max 1 steps };
+  memory = true;
 })
 
 abbrev pub let_concluded : State → List ℕ → ℕ → Result (Result (View × Ending) Refusal) Fault → Outcome
@@ -102,6 +103,7 @@ abbrev pub made_new : State → List ℕ → Kind → Outcome
 made_new state name kind = within_handles state 1 (record {
   reply = Some (codes "ok");
   after = record { bases = state.bases ++ empty_base kind ∷ []; names = bound state.names name (base (length state.bases)); handles = state.handles + 1 };
+  memory = true;
 })
 
 abbrev pub new_of : State → List ℕ → Option Kind → Outcome
@@ -112,7 +114,7 @@ new_of state name (Some kind) = made_new state name kind
 
 -- the step of a line's tree; no view gives iterators yet
 abbrev pub step_of : State → Tree Part → Outcome
-step_of state line.Blank = record { reply = None; after = state }
+step_of state line.Blank = record { reply = None; after = state; memory = false }
 step_of state line.Long = says state (codes "?long")
 step_of state line.Syntax = says state (codes "?syntax")
 step_of state (line.New name kind) = new_of state name (kind_named kind)

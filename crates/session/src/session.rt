@@ -1,5 +1,5 @@
 //! A session: the lines that are executed, one after another.
-ghost use Rattle.std.specs.Prelude.{◌≡◌, ℕ, ◌+◌, ◌^◌, ◌-◌, ◌≤◌, Err, OnOk};
+ghost use Rattle.std.specs.Prelude.{◌≡◌, ℕ, ◌+◌, ◌^◌, ◌-◌, ◌≤◌, true, Err, OnOk};
 ghost use Rattle.elem.specs.Outside.{Rose};
 ghost use Rattle.session.specs.Executing.{Executed};
 ghost use Rattle.session.specs.Machine.{step};
@@ -58,7 +58,8 @@ impl Session {
     /// # Errors
     ///
     /// `WriteFault` where the sink failed: a front of the reply may have gone there, and the line was executed or not.
-    /// `NoMemory` where memory ran out: nothing was written and nothing has changed.
+    /// `NoMemory` where memory ran out: nothing was written and nothing has changed. No line wants memory but those that
+    /// make a base, give a name to a view, leave more rows, or add or remove what another view shows.
     pub fn exec<S: Sink, L: Ledger>(
         &mut self,
         line: &[u8],
@@ -69,6 +70,7 @@ impl Session {
         ensures ok { OnOk result (self.new ≡ (step self.old line.now).after) }
         ensures reply { Wrote result (S.taken out.old) (S.taken out.new) (written (step self.old line.now).reply) }
         ensures unchanged { result ≡ Err ExecFault.NoMemory → self.new ≡ self.old }
+        ensures memory { result ≡ Err ExecFault.NoMemory → (step self.old line.now).memory ≡ true }
         ensures changes { (n : ℕ) → ChangesUpTo n self.old.bases → ChangesUpTo (n + 1) self.new.bases }
         ensures later { S.faults out.old ≤ S.faults out.new }
         ensures cause { result ≡ Err ExecFault.WriteFault → Rose (S.faults out.old) (S.faults out.new) }

@@ -8,4 +8,4 @@ returns-then-not-fits g c = call_unfit c.args.store.now (view_in c.args.store.no
 pub returns : goal.returns
 returns g c =
     call_told c.args.store.now (view_in c.args.store.now c.args.n) c.shape.result c.shape.ensures c.args.call.now
-    c.call-answer.new.store c.call-answer.result c.if-not-fits.ensures c.call-answer.ensures.came c.call-answer.ensures.changes c.tell.ensures
+    c.call-answer.new.store c.call-answer.result c.if-not-fits.ensures c.call-answer.ensures.came c.call-answer.ensures.changes c.call-answer.ensures.memory c.tell.ensures

@@ -10,4 +10,4 @@ returns-then-not-fits_with g c =
 pub returns : goal.returns
 returns g c =
     call_with_told c.args.store.now (view_in c.args.store.now c.args.n) (view_in c.args.store.now c.args.other) c.shape.result c.shape-2.result c.shape.ensures c.shape-2.ensures c.args.word
-    c.call_with-answer.new.store c.call_with-answer.result c.if-not-fits_with.ensures c.call_with-answer.ensures.came c.call_with-answer.ensures.changes c.tell.ensures
+    c.call_with-answer.new.store c.call_with-answer.result c.if-not-fits_with.ensures c.call_with-answer.ensures.came c.call_with-answer.ensures.changes c.call_with-answer.ensures.memory c.tell.ensures

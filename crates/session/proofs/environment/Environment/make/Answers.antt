@@ -3,7 +3,7 @@ use Rattle.std.specs.Prelude.{codes}
 use Rattle.view_steps.specs.Kinds.{kind_named}
 use Rattle.session.specs.Machine.{new_of}
 use Rattle.session.specs.Outcomes.{says}
-use Rattle.session.proofs.NameLemmas.{Added, executed_new, executed_said, ok_at, ok_part, settled_more}
+use Rattle.session.proofs.NameLemmas.{Added, executed_new, executed_said, handles-memory, ok_at, ok_part, settled_more}
 use Rattle.session.proofs.SessionLemmas.{executed_from, executed_full, executed_no_memory, seen_same}
 use Rattle.session.proofs.environment.Environment.make.Given as given
 use Rattle.session.proofs.environment.Environment.make.Goals as goal
@@ -14,7 +14,10 @@ returns-in_default g c =
     executed_from c.args.self.now c.args.self.now _ (λ state. says state (codes "?call")) _ refl (sym (ap (new_of c.args.self.now c.args.name) none)) (executed_said _ _ _ _ _ _ (codes "?call") c.say.ensures)
 
 pub returns-then-is_err : goal.returns-then-is_err
-returns-then-is_err g c = executed_no_memory c.args.self.now _ _ _ _ (seen_same c.self.inside.store c.self.inside.store c.self.inside.names.entries _ refl c.reserve.ensures.entries ∙ c.self.view_is)
+returns-then-is_err g c =
+    let some = sym (c.kind_named.ensures ∙ ap kind_named c.bytes.ensures) ∙ c.in-Some.is in
+    executed_no_memory c.args.self.now _ _ _ _ (seen_same c.self.inside.store c.self.inside.store c.self.inside.names.entries _ refl c.reserve.ensures.entries ∙ c.self.view_is)
+    (ap (λ k. (new_of c.args.self.now c.args.name k).memory) some ∙ handles-memory c.args.self.now 1 _ refl)
 
 added : (g : given.Over) (c : goal.After-say-in-Ok g) → Added c.self.inside.store c.new_base.new.self c.self.inside.names.entries c.insert.new.self.entries c.args.name c.in-Some.kind
 added g c =

@@ -1,4 +1,4 @@
-use Rattle.std.proofs.Common.{None, refl, ap, ◌∙◌}
+use Rattle.std.proofs.Common.{false, None, refl, ap, ◌∙◌}
 use Rattle.std.specs.Prelude.{codes}
 use Rattle.script_text.specs.Lines.{placed_line}
 use Rattle.script_text.specs.Names.{kind_text}
@@ -13,7 +13,7 @@ use Rattle.session.proofs.session.Session.execute.Goals as goal
 
 pub returns-in-Blank : goal.returns-in-Blank
 returns-in-Blank g c =
-    executed_from c.args.self.now _ _ (λ state. record { reply = None; after = state }) _ refl (on_blank c.args.self.now c.args.line.now c.read_line.new.parts.items (placed_line c.args.line.now) c.in-Blank.ensures.placed) (executed_blank c.args.self.now _ _ _ c.self.view_is)
+    executed_from c.args.self.now _ _ (λ state. record { reply = None; after = state; memory = false }) _ refl (on_blank c.args.self.now c.args.line.now c.read_line.new.parts.items (placed_line c.args.line.now) c.in-Blank.ensures.placed) (executed_blank c.args.self.now _ _ _ c.self.view_is)
 
 pub returns-in-Long : goal.returns-in-Long
 returns-in-Long g c =
