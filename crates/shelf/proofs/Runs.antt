@@ -65,6 +65,11 @@ front_taken : (came : List ℕ) (old new : Option (List ℕ)) → FedFront empty
 front_taken came old new f =
     (f.text, subst (λ (ys : List ℕ). IsFront f.text ys) (ap (replies_on empty []) (append-nil came) ∙ sym (transcript_is came)) (f.rest []), f.takes)
 
+-- and so a front of that of the whole script
+front_of_all : (bytes came left : List ℕ) (old new : Option (List ℕ)) → bytes ≡ came ++ left → FedFront empty [] came old new → TakesFront old new (transcript bytes)
+front_of_all bytes came left old new parts f =
+    (f.text, subst (λ (ys : List ℕ). IsFront f.text ys) (ap (replies_on empty []) (sym parts) ∙ sym (transcript_is bytes)) (f.rest left), f.takes)
+
 -- the sink took the replies of the whole lines
 lines_taken : (s : State) (line came : List ℕ) (old new : Option (List ℕ)) → Fed empty s [] line came old new → Takes old new (transcript (whole_lines came))
 lines_taken s line came old new f = subst (λ (text : List ℕ). Takes old new text) (whole_transcript came) (whole_taken empty s [] line came old new f)
@@ -83,6 +88,7 @@ ran_front bytes came left old new status parts h = record {
   parts = parts;
   done = λ e. absurd (h.not_done e);
   front = front_taken came old new h.front;
+  write_fault = λ e. front_of_all bytes came left old new parts h.front;
   read_fault = h.unread;
   no_memory = λ e. let w = h.memory e in (w.done, w.undone, w.parts, subst (λ (text : List ℕ). Takes old new text) (whole_transcript w.done) w.takes);
   too_long = h.long;
@@ -187,6 +193,7 @@ ends bytes before now taken s line old mid new c within none g takes =
         parts = c.parts ∙ ap (λ ys. c.came ++ ys) given.2;
         done = λ e. (no_rest, subst (λ (bs : List ℕ). Takes old new (transcript bs)) (sym all) whole);
         front = (transcript c.came, ([], sym (append-nil (transcript c.came))), whole);
+        write_fault = λ e. (cc);
         read_fault = λ e. (cc);
         no_memory = λ e. (cc);
         too_long = ((λ e. (cc)), λ h. absurd (omega arith));
@@ -208,24 +215,27 @@ wrote_front faults.WriteFault mid new text h = h
 wrote_front faults.NoMemory mid new text h = ([], (text, refl), stays_takes mid new h)
 
 pub ends_at_fault : (bytes : List ℕ) (before now : Option (List ℕ)) (taken : ℕ) (s : State) (line : List ℕ) (old mid new : Option (List ℕ)) (why : ExecFault) →
-    Coming bytes before taken s line old mid → taken ≤ 2 ^ 40 → Gives before now [] → Wrote {T = Unit {0}} (Err why) mid new (replies_on s line []) →
+    Coming bytes before taken s line old mid → taken ≤ 2 ^ 40 → IsToldEmpty before → Gives before now [] → Wrote {T = Unit {0}} (Err why) mid new (replies_on s line []) →
     (came left : List ℕ) × (now ≡ Some left) × Ran bytes came left old new (fault_status why)
-ends_at_fault bytes before now taken s line old mid new why c within g wrote =
+ends_at_fault bytes before now taken s line old mid new why c within none g wrote =
     let given = gave before now c.left [] c.told g in
     let count : length c.came ≡ taken = c.count in
+    let all : bytes ≡ c.came = c.parts ∙ ap (λ ys. c.came ++ ys) (told_empty before c.left c.told none) ∙ append-nil c.came in
     let front : TakesFront mid new (replies_on s line []) = wrote_front why mid new (replies_on s line []) wrote in
-    let text : transcript c.came ≡ (c.fed).text ++ replies_on s line [] = transcript_is c.came ∙ ap (replies_on empty []) (sym (append-nil c.came)) ∙ (c.fed).rest last_reply [] in (
+    let text : transcript c.came ≡ (c.fed).text ++ replies_on s line [] = transcript_is c.came ∙ ap (replies_on empty []) (sym (append-nil c.came)) ∙ (c.fed).rest last_reply [] in
+    let taken_front : TakesFront old new (transcript c.came) = (
+      (c.fed).text ++ front.0,
+      ((front.1).0, text ∙ ap (λ ys. (c.fed).text ++ ys) (front.1).1 ∙ sym (append_assoc (c.fed).text front.0 (front.1).0)),
+      takes_more old mid new (c.fed).text front.0 (c.fed).takes front.2,
+    ) in (
       c.came,
       given.0,
       given.1,
       record {
         parts = c.parts ∙ ap (λ ys. c.came ++ ys) given.2;
         done = λ e. absurd (not_done why e);
-        front = (
-          (c.fed).text ++ front.0,
-          ((front.1).0, text ∙ ap (λ ys. (c.fed).text ++ ys) (front.1).1 ∙ sym (append_assoc (c.fed).text front.0 (front.1).0)),
-          takes_more old mid new (c.fed).text front.0 (c.fed).takes front.2,
-        );
+        front = taken_front;
+        write_fault = λ e. subst (λ (bs : List ℕ). TakesFront old new (transcript bs)) (sym all) taken_front;
         read_fault = λ e. absurd (not_unread why e);
         no_memory = λ e. (c.came, [], sym (append-nil c.came), whole_before s line c.came old mid new c.fed (wrote_nothing why mid new (replies_on s line []) e wrote));
         too_long = ((λ e. absurd (not_too_long why e)), λ h. absurd (omega arith));

@@ -21,8 +21,10 @@ pub record Ran (bytes came left : List ℕ) (old new : Option (List ℕ)) (statu
   pub parts : bytes ≡ came ++ left
   -- the sink took the whole transcript of a script that was read to its end
   pub done : status ≡ Done → (left ≡ []) × Takes old new (transcript bytes)
-  -- and else a front of the transcript of what was taken
+  -- and else a front of the transcript of what was taken, as of a script that ends there
   pub front : TakesFront old new (transcript came)
+  -- a front of the transcript of the whole script, before a write that failed
+  pub write_fault : status ≡ WriteFault → TakesFront old new (transcript bytes)
   -- the replies of all whole lines that were read, before a read that failed
   pub read_fault : status ≡ ReadFault → Takes old new (transcript (whole_lines came))
   -- the replies of the first lines, each whole, before memory ran out

@@ -1,5 +1,5 @@
 //! The top call.
-ghost use Rattle.std.specs.Prelude.{◌≡◌, ◌≢◌, ℕ, ◌+◌, ◌-◌, ◌^◌, ◌<◌, ◌≤◌, ◌↔◌, List, [], ◌∷◌, length, Option, None, Some, Ok, Err};
+ghost use Rattle.std.specs.Prelude.{◌≡◌, ◌≢◌, ℕ, ◌+◌, ◌-◌, ◌^◌, ◌<◌, ◌≤◌, ◌↔◌, min, List, [], ◌∷◌, length, Option, None, Some, Ok, Err};
 ghost use Rattle.elem.specs.Outside.{Rose, Stays};
 ghost use Rattle.session.specs.State.{empty};
 ghost use Rattle.shelf.specs.Headline.{IsRun, Ran, status_of};
@@ -46,6 +46,7 @@ pub fn run<I: Inputs, S: Sink, L: Ledger>(
         (came left : List ℕ) × (I.left inputs.new ≡ Some left) × Ran bytes came left (S.taken sink.old) (S.taken sink.new) result }
     ensures read_fault { result ≡ Status.ReadFault → Rose (I.read_faults inputs.old) (I.read_faults inputs.new) }
     ensures write_fault { result ≡ Status.WriteFault → Rose (S.faults sink.old) (S.faults sink.new) }
+    ensures too_long { result ≡ Status.TooLong → min (I.given inputs.old + 2 ^ 40 + 1) (2 ^ 64 - 1) ≤ I.given inputs.new }
 {
     if !words.is_run() {
         return Status::Usage;
@@ -71,6 +72,7 @@ fn run_script<I: Inputs, S: Sink, L: Ledger>(
     ensures usage { result ≢ Err Status.Usage }
     ensures read_fault { result ≡ Err Status.ReadFault → Rose (I.read_faults inputs.old) (I.read_faults inputs.new) }
     ensures write_fault { result ≡ Err Status.WriteFault → Rose (S.faults sink.old) (S.faults sink.new) }
+    ensures too_long { result ≡ Err Status.TooLong → min (I.given inputs.old + 2 ^ 40 + 1) (2 ^ 64 - 1) ≤ I.given inputs.new }
 {
     let mut line = LineBuffer::new();
     let mut room = [0u8; PIECE];

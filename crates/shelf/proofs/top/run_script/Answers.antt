@@ -20,7 +20,7 @@ returns-in_err-finish-clause-ran g c =
     let p = err_from_is_err_and c.from_residual.result c.from_residual.ensures.1 in
     let given = rw c.if-count-eq0.true at c.in-Ok.ensures.bytes in
     rw (p.1, p.2) (λ bytes h. ends_at_fault bytes (g.I.Inputs.left c.loop-count.inputs) (g.I.Inputs.left c.read.new.self) c.loop-count.taken c.loop-count.session c.loop-count.line _ _ _ _
-    (c.loop-count.invariant.coming bytes h) c.loop-count.invariant.within given c.in_err-finish.ensures.reply)
+    (c.loop-count.invariant.coming bytes h) c.loop-count.invariant.within (c.in-Ok.ensures.end c.if-count-eq0.true) given c.in_err-finish.ensures.reply)
 
 pub returns-then-count-eq0-clause-ran : goal.returns-then-count-eq0-clause-ran
 returns-then-count-eq0-clause-ran g c =
@@ -57,6 +57,7 @@ loop-count-preserved g c =
     record {
       within = omega arith;
       changes = weaker _ (c.loop-count.taken + c.in-Ok.count) _ (omega (arith, length-take {A = ℕ})) more;
+      given = omega (arith, c.in-Ok.ensures.given, c.loop-count.invariant.given);
       reads = omega (arith, c.in-Ok.ensures.cause.later, c.loop-count.invariant.reads);
       writes = omega (arith, c.in_ok-feed.ensures.later, c.loop-count.invariant.writes);
       coming = λ bytes h. comes bytes _ _ c.loop-count.taken _ _ _ _ (take c.in-Ok.count c.read.new.room) _ _ _ (c.loop-count.invariant.coming bytes h) c.in-Ok.ensures.bytes fed (c.loop-count.taken + c.in-Ok.count) (omega arith);
