@@ -6,7 +6,7 @@ use Rattle.std.specs.Prelude.{Result, Ok, Err}
 use Rattle.session.specs.declared.faults.ExecFault.{ExecFault}
 use Rattle.session.specs.declared.faults.ExecFault.TheVariants as faults
 use Rattle.shelf.specs.declared.status.Status.{Status}
-use Rattle.shelf.specs.declared.status.Status.TheVariants.{Done, ReadFault, WriteFault, NoMemory, TooLong}
+use Rattle.shelf.specs.declared.status.Status.TheVariants.{Done, Usage, ReadFault, WriteFault, NoMemory, TooLong}
 
 -- the greatest number of bytes of a script
 abbrev pub most_bytes : ℕ
@@ -42,3 +42,12 @@ fault_status faults.NoMemory = NoMemory
 abbrev pub status_of : Result (Unit {0}) Status → Status
 status_of (Ok x) = Done
 status_of (Err status) = status
+
+-- the number with which the program ends
+abbrev pub number_of : Status → ℕ
+number_of Done = 0
+number_of Usage = 2
+number_of ReadFault = 4
+number_of WriteFault = 5
+number_of NoMemory = 6
+number_of TooLong = 7
