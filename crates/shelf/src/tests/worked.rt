@@ -1,9 +1,19 @@
 //! Scripts, each with what it writes.
 
 /// A script, and its transcript.
-pub const WORKED: [(&[u8], &[u8]); 13] = [
+pub const WORKED: [(&[u8], &[u8]); 16] = [
     // An empty script.
     (b"", b""),
+    // Every kind, and its order.
+    (
+        b"new a ArrayList\nnew b LinkedHashSet\nnew c TreeSet\nnew d TreeSetReverse\nnew e TreeSetLength\nnew f LinkedHashMap\nnew g TreeMap\nnew h TreeMapReverse\nnew i TreeMapLength\na.add(10)\na.add(a)\na.add(2)\na.add(10)\na\nb.addAll(a)\nb\nc.addAll(a)\nc\nd.addAll(a)\nd\ne.addAll(a)\ne\nf.put(10, x)\nf.put(a, y)\nf.put(2, z)\nf\ng.putAll(f)\ng\nh.putAll(f)\nh\ni.putAll(f)\ni\nnew j Multiset\n",
+        b"ok\nok\nok\nok\nok\nok\nok\nok\nok\ntrue\ntrue\ntrue\ntrue\n[10, a, 2, 10]\ntrue\n[10, a, 2]\ntrue\n[2, 10, a]\ntrue\n[a, 10, 2]\ntrue\n[2, a, 10]\nnull\nnull\nnull\n{10=x, a=y, 2=z}\nok\n{2=z, 10=x, a=y}\nok\n{a=y, 10=x, 2=z}\nok\n{2=z, a=y, 10=x}\n?call\n",
+    ),
+    // A tree map, put whole into a linked one.
+    (
+        b"new m TreeMap\nm.put(b, 1)\nnew n LinkedHashMap\nn.putAll(m)\nn\n",
+        b"ok\nnull\nok\nok\n{b=1}\n",
+    ),
     // A linked map and its set of keys.
     (
         b"new m LinkedHashMap\nm.put(a, 1)\nm.put(a, 2)\nm\nm.get(b)\nm.keySet.remove(a)\nm\nm.remove(a)\n",
@@ -44,10 +54,15 @@ pub const WORKED: [(&[u8], &[u8]); 13] = [
         b"new l ArrayList\nlet r = l.reverse\nr.add(1)\nr.add(2)\nl\nr.add(1, 3)\nl\nr.set(0, 4)\nl\nr.get(2)\nr.indexOf(3)\nr.indexOf(9)\nr.add(4, 9)\nr.removeAt(-1)\nl.get(2147483648)\nr.removeAt(0)\nl.filter(odd).clear\nl\n",
         b"ok\nok\ntrue\ntrue\n[2, 1]\nok\n[2, 3, 1]\n1\n[2, 3, 4]\n2\n1\n-1\nIndexOutOfBoundsException\nIndexOutOfBoundsException\n?call\n4\nok\n[2]\n",
     ),
-    // A list transformed.
+    // A list transformed, whose sums pass 32 bits.
     (
-        b"new l ArrayList\nl.add(1)\nl.add(a)\nlet f = l.transform(when(isInt, times(2), prefix(x)))\nf\nf.add(4)\nf.remove(2)\nl\nl.add(9223372036854775807)\nl.transform(plus(1))\n",
-        b"ok\ntrue\ntrue\nok\n[2, xa]\nUnsupportedOperationException\ntrue\n[a]\ntrue\n[a, -9223372036854775808]\n",
+        b"new l ArrayList\nl.add(1)\nl.add(a)\nlet f = l.transform(when(isInt, times(2), prefix(x)))\nf\nf.add(4)\nf.remove(2)\nl\nl.add(2147483647)\nl.transform(plus(1))\n",
+        b"ok\ntrue\ntrue\nok\n[2, xa]\nUnsupportedOperationException\ntrue\n[a]\ntrue\n[a, 2147483648]\n",
+    ),
+    // Numbers of 64 bits: a sum that wraps, a number and an index that are too large.
+    (
+        b"new l ArrayList\nl.add(9223372036854775807)\nl.transform(plus(1))\nl.add(9223372036854775808)\nl.get(2147483648)\n",
+        b"ok\ntrue\n[-9223372036854775808]\n?syntax\n?call\n",
     ),
     // Nested views of a map, written through.
     (
