@@ -14,3 +14,7 @@ pub mod BuiltLemmas
 pub mod SpotLemmas
 pub mod ShownLemmas
 pub mod FitLemmas
+pub mod KeyDrops
+pub mod WindowDrops
+pub mod LaneLemmas
+pub mod AnyShown

@@ -11,6 +11,7 @@ ghost use Rattle.view_steps.specs.Places.{HasKeys};
 ghost use Rattle.view_steps.specs.Steps as table;
 ghost use Rattle.view_steps.specs.Views.{base, over, base_at, base_under, empty_base, path, shape_at, flags_at};
 
+mod dropping;
 mod reading;
 mod shown;
 mod slots;

@@ -1,6 +1,7 @@
 //! What changes one base of a store: its rows, and its change number with them.
 ghost use Rattle.std.specs.Prelude.{◌≡◌, ◌<◌, ◌≤◌, ◌+◌, ◌^◌, ◌⊎◌, ◌∷◌, ℕ, [], List, Some, filter, if◌then◌else◌, length, nat_lt, not, IfErr, OnErr, OnOk};
 ghost use Rattle.base_store.specs.BaseRows.{AreRowsOf, IsFree, IsRowOf, IsSpotIn};
+ghost use Rattle.base_store.specs.Reaches.{Reaches};
 ghost use Rattle.view_steps.specs.Edits.{adding, edited, removing, with_rows};
 ghost use Rattle.view_steps.specs.Lanes.{IsFrom};
 ghost use Rattle.view_steps.specs.Places.{HasKeys, IsRowAt, places_of};
@@ -8,6 +9,7 @@ ghost use Rattle.view_steps.specs.declared.refusals.Refusal.TheVariants as refus
 
 use super::Slot;
 use crate::RowTest;
+use crate::reach::Reach;
 use elem::{NoMemory, Steps};
 use std::alloc::Global;
 use std::sync::ledger::Ledger;
@@ -80,14 +82,20 @@ impl Slot {
         self.change = raised(self.change, after, before);
     }
 
-    /// Removes every row that passes a test.
-    pub(super) fn drop_all<T: RowTest, L: Ledger>(&mut self, test: &T, steps: &mut Steps<L>)
+    /// Removes every row that passes a test. It looks at those within its reach alone.
+    pub(super) fn drop_all<T: RowTest, L: Ledger>(
+        &mut self,
+        reach: Reach<'_>,
+        test: &T,
+        steps: &mut Steps<L>,
+    )
         requires change { self.old.change < 2 ^ 63 }
+        requires reach { Reaches self.old.kind reach (T.passes test.now) }
         ensures after { self.new ≡ with_rows self.old (filter (λ row. not (T.passes test.now row)) self.old.rows) (nat_lt (length (filter (λ row. not (T.passes test.now row)) self.old.rows)) (length self.old.rows)) }
         ensures keys { HasKeys self.new }
     {
         let before = self.rows.len();
-        self.rows.drop_all(test, steps);
+        self.rows.drop_all(reach, test, steps);
         let after = self.rows.len();
         self.change = raised(self.change, after, before);
     }

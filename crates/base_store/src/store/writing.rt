@@ -16,10 +16,9 @@ ghost use Rattle.view_steps.specs.Shapes.{is_keyed};
 ghost use Rattle.view_steps.specs.Views.{base, base_at, base_under, candidates};
 ghost use Rattle.view_steps.specs.declared.refusals.Refusal.TheVariants as refusals;
 
-use super::shown::Shown;
-use super::{MOST_ROWS, Made, Slot, Store};
+use super::{MOST_ROWS, Slot, Store};
 use crate::base_rows::BaseRows;
-use crate::{AnyRef, BaseId, RowTest};
+use crate::BaseId;
 use elem::{NoMemory, Steps};
 use std::alloc::Global;
 use std::sync::ledger::Ledger;
@@ -109,32 +108,10 @@ impl Store {
         let after = rows_at(self.slots.as_slice(), number);
         self.rows = self.rows - before + after;
     }
-
-    /// Removes the rows that a view shows whose items pass a test. It takes no memory.
-    pub fn drop_shown<T: RowTest, L: Ledger>(&mut self, n: AnyRef, test: &T, steps: &mut Steps<L>)
-        requires node { n < length self.old.nodes }
-        requires change { (base_at self.old.world (base_under (view_in self.old n))).change < 2 ^ 63 }
-        ensures after { self.new ≡ with_world self.old (world_after self.old.world (base_under (view_in self.old n)) (removing (all_hits (T.passes test.now) (candidates self.old.world (view_in self.old n))))) }
-        ensures few { rows_in self.new.world ≤ most_rows }
-    {
-        let at = self.root_of(n).number();
-        let before = rows_at(self.slots.as_slice(), at);
-        drop_in(
-            &mut self.slots,
-            at,
-            self.nodes.as_slice(),
-            self.temporary.as_slice(),
-            n.number(),
-            test,
-            steps,
-        );
-        let after = rows_at(self.slots.as_slice(), at);
-        self.rows = self.rows - before + after;
-    }
 }
 
 /// How many rows a base has.
-fn rows_at(slots: &[Slot], b: usize) -> usize
+pub(super) fn rows_at(slots: &[Slot], b: usize) -> usize
     requires { b < length slots.now }
     ensures { result ≡ length (base_at slots.now b).rows }
 {
@@ -239,32 +216,4 @@ fn remove_in<L: Ledger>(slots: &mut Vec<Slot>, b: usize, at: &Place, steps: &mut
 {
     let slot = &mut slots[b];
     slot.remove(at, steps);
-}
-
-/// Removes the rows of a base that a view over it shows whose items pass a test.
-fn drop_in<T: RowTest, L: Ledger>(
-    slots: &mut Vec<Slot>,
-    b: usize,
-    lasting: &[Made],
-    temporary: &[Made],
-    n: usize,
-    test: &T,
-    steps: &mut Steps<L>,
-)
-    requires base { b < length slots.old.items }
-    requires change { (base_at slots.old.items b).change < 2 ^ 63 }
-    requires within { n < length (lasting.now ++ temporary.now) }
-    requires below { StandBelow (lasting.now ++ temporary.now) }
-    requires under { b ≡ base_under (view_at (lasting.now ++ temporary.now) n) }
-    ensures after { slots.new.items ≡ world_after slots.old.items b (removing (all_hits (T.passes test.now) (candidates slots.old.items (view_at (lasting.now ++ temporary.now) n)))) }
-    ensures keys { HasKeys (edited (base_at slots.old.items b) (removing (all_hits (T.passes test.now) (candidates slots.old.items (view_at (lasting.now ++ temporary.now) n))))) }
-{
-    let shown = Shown {
-        lasting,
-        temporary,
-        n,
-        test,
-    };
-    let slot = &mut slots[b];
-    slot.drop_all(&shown, steps);
 }

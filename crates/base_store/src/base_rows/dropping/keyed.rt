@@ -1,10 +1,14 @@
 //! Rows that go from a set or a map.
-ghost use Rattle.std.specs.Prelude.{◌≡◌, ℕ, List, Some, ◌∷◌, ◌++◌, cond, filter, map, not};
+ghost use Rattle.std.specs.Prelude.{◌≡◌, ◌≤◌, ◌+◌, ◌*◌, ℕ, List, Some, ◌∷◌, ◌++◌, ◌&&◌, cond, filter, length, map, not, true};
+ghost use Rattle.std.specs.List.{list_any};
 ghost use Rattle.base_store.specs.Journals.{items_by};
 ghost use Rattle.elem.specs.declared.elements.Elem.{Elem as Element};
+ghost use Rattle.elem.specs.Elements.{same};
 ghost use Rattle.elem.specs.Keyed.{IsPresent};
 ghost use Rattle.elem.specs.Rows.{first_key};
+ghost use Rattle.view_steps.specs.declared.items.Item.{Item as AnItem};
 ghost use Rattle.view_steps.specs.Edits.{without_rows};
+ghost use Rattle.view_steps.specs.Items.{key_of};
 ghost use Rattle.view_steps.specs.Lanes.{IsFrom};
 ghost use Rattle.view_steps.specs.Places.{key_place, IsRowAt};
 
@@ -48,6 +52,40 @@ fn drop_row<V: RowValue, K: Keyed<V>, T: RowTest, L: Ledger>(
         }
     }
     next
+}
+
+/// Removes the row of a key where it passes a test.
+pub fn drop_key<V: RowValue, K: Keyed<V>, T: RowTest, L: Ledger>(
+    rows: &mut K,
+    k: &Elem,
+    test: &T,
+    steps: &mut Steps<L>,
+)
+    ensures rows { K.rows rows.new ≡ filter (λ row. not (same k.now row.0 && T.passes test.now (V.row_of row.0 row.1))) (K.rows rows.old) }
+    ensures steps { steps.new ≤ steps.old + 2 }
+{
+    let _len = rows.len();
+    if let Some(v) = rows.probe(*k, steps) {
+        if test.test(&V::row(*k, v)) {
+            rows.remove(*k, steps);
+        }
+    }
+}
+
+/// Removes every row that passes a test, where each of them has one of some keys.
+pub fn drop_keys<V: RowValue, K: Keyed<V>, T: RowTest, L: Ledger>(
+    rows: &mut K,
+    keys: &[Elem],
+    test: &T,
+    steps: &mut Steps<L>,
+)
+    requires { (row : AnItem) → T.passes test.now row ≡ true → list_any (λ k. same k (key_of row)) keys.now ≡ true }
+    ensures rows { items_by V.row_of (K.rows rows.new) ≡ filter (λ row. not (T.passes test.now row)) (items_by V.row_of (K.rows rows.old)) }
+    ensures steps { steps.new ≤ steps.old + 2 * length keys.now }
+{
+    for k in keys {
+        drop_key(rows, k, test, steps);
+    }
 }
 
 /// Removes every row that passes a test, from the first to the last.

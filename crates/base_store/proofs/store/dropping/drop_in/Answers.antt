@@ -2,7 +2,7 @@ use Rattle.std.proofs.Common.{◌++◌, ap, set, subst}
 use Rattle.view_steps.specs.Places.{HasKeys}
 use Rattle.view_steps.specs.Views.{Base}
 use Rattle.base_store.specs.Nodes.{view_at}
-use Rattle.base_store.proofs.store.writing.drop_in.Goals as goal
+use Rattle.base_store.proofs.store.dropping.drop_in.Goals as goal
 use Rattle.view_steps.proofs.RowHits.{dropped}
 
 pub returns-clause-after : goal.returns-clause-after
