@@ -1,17 +1,19 @@
 -- What goes from a set or a map by its key, and by keys one after another.
-use Rattle.std.proofs.Common.{◌≡◌, ℕ, zero, suc, ◌<◌, ◌≤◌, Bool, true, false, cond, ◌&&◌, ◌||◌, not, List, [], ◌∷◌, length, take, get_or, refl, sym, ap, ◌∙◌, subst, arith}
-use Rattle.std.specs.Prelude.{filter, Option, Some, None}
+use Rattle.std.proofs.Common.{◌≡◌, ℕ, suc, Bool, true, false, cond, ◌&&◌, ◌||◌, not, List, [], ◌∷◌, ◌++◌, take, drop, refl, sym, ap, ◌∙◌, subst}
+use Rattle.std.specs.Prelude.{filter, is_some, Option, Some, None}
 use Rattle.std.specs.List.{IsDistinct, AllByRecursion, list_any}
 use Rattle.std.specs.Map.{keys_of}
-use Rattle.std.proofs.lemmas.List.{take_all}
+use Rattle.std.proofs.lemmas.List.{map-append, take-append-drop}
+use Rattle.std.proofs.lemmas.List.Folds.{list_any-append}
 use Rattle.std.proofs.lemmas.Option.{same_Some}
 use Rattle.elem.specs.declared.elements.Elem.{Elem}
 use Rattle.elem.specs.Elements.{same}
 use Rattle.elem.specs.ElementLaws.{same-Decides}
-use Rattle.elem.specs.Keyed.{value_at, without, HasDistinctKeys}
+use Rattle.elem.specs.Keyed.{value_at, without, HasDistinctKeys, IsPresent}
+use Rattle.base_store.proofs.DropLemmas.{one_more, present}
 use Rattle.view_steps.specs.declared.items.Item.{Item}
 use Rattle.view_steps.specs.Items.{key_of}
-use Rattle.view_steps.proofs.ListLemmas.{filter-filter, or-false}
+use Rattle.view_steps.proofs.ListLemmas.{filter-filter}
 
 module _ {V : Type 0} (k : Elem) (test : Elem × V → Bool) where
   -- the rows without that of k, where it passes
@@ -90,21 +92,44 @@ none_stay test (x ∷ xs) all = rw (all x) (none_stay test xs all)
 
 -- ---- keys, one after another
 
-or-assoc : (a b c : Bool) → (a || (b || c)) ≡ ((a || b) || c)
-or-assoc true b c = refl
-or-assoc false b c = refl
+or-false : (b : Bool) → (b || false) ≡ b
+or-false true = refl
+or-false false = refl
 
 -- one key more
-pub any_more : (test : Elem → Bool) (ks : List Elem) (i j : ℕ) (k : Elem) → j ≡ suc i → i < length ks → k ≡ get_or ks i k → list_any test (take j ks) ≡ (list_any test (take i ks) || test k)
-any_more test [] i j k j_is lt is = absurd (omega arith)
-any_more test (x ∷ ks) zero j k j_is lt is = ap (λ n. list_any test (take n (x ∷ ks))) j_is ∙ or-false (test x) ∙ ap test (sym is)
-any_more test (x ∷ ks) (suc i) j k j_is lt is =
-    ap (λ n. list_any test (take n (x ∷ ks))) j_is
-    ∙ ap (λ b. test x || b) (any_more test ks i (suc i) k refl (omega arith) is)
-    ∙ or-assoc (test x) (list_any test (take i ks)) (test k)
+pub any_more : {U : Type 0} (test : Elem → Bool) (old : List (Elem × U)) (i j : ℕ) (row : Elem × U) (rest : List (Elem × U)) → j ≡ suc i → drop i old ≡ row ∷ rest
+    → list_any test (keys_of (take j old)) ≡ (list_any test (keys_of (take i old)) || test row.0)
+any_more {U} test old i j row rest j_is at =
+    ap (λ n. list_any test (keys_of (take n old))) j_is
+    ∙ ap (λ (rows : List (Elem × U)). list_any test (keys_of rows)) (one_more i old row rest at).0
+    ∙ ap (list_any test) (map-append (λ (r : Elem × U). r.0) (take i old) (row ∷ []))
+    ∙ list_any-append test (keys_of (take i old)) (row.0 ∷ [])
+    ∙ ap (λ b. list_any test (keys_of (take i old)) || b) (or-false (test row.0))
 
--- each row that passes has one of them
-pub keys_cover : {V : Type 0} (row_of : Elem → V → Item) → ((k : Elem) (v : V) → key_of (row_of k v) ≡ k) → (passes : Item → Bool) (ks : List Elem) (i : ℕ) → length ks ≤ i
-    → ((item : Item) → passes item ≡ true → list_any (λ k. same k (key_of item)) ks ≡ true) → (row : Elem × V) → passes (row_of row.0 row.1) ≡ true → list_any (λ k. same k row.0) (take i ks) ≡ true
-keys_cover row_of kept passes ks i le covers row h =
-    ap (list_any (λ k. same k row.0)) (take_all i ks le) ∙ ap (λ (x : Elem). list_any (λ k. same k x) ks) (sym (kept row.0 row.1)) ∙ covers (row_of row.0 row.1) h
+-- a row in its place is there, and the key behind it is that of the next
+pub cut_here : {U : Type 0} (old : List (Elem × U)) (i : ℕ) (row : Elem × U) (rest : List (Elem × U)) → drop i old ≡ row ∷ rest → old ≡ take i old ++ row ∷ rest
+cut_here {U} old i row rest at = sym (take-append-drop i old) ∙ ap (λ (rows : List (Elem × U)). take i old ++ rows) at
+
+pub here_there : {U : Type 0} (old : List (Elem × U)) (i : ℕ) (k : Elem) (u : U) (rest : List (Elem × U)) → drop i old ≡ (k, u) ∷ rest → IsPresent old k
+here_there {U} old i k u rest at = subst (λ (rows : List (Elem × U)). IsPresent rows k) (sym (cut_here old i (k, u) rest at)) (present (take i old) k u rest)
+
+-- what is a key of rows is among their keys
+pub among_keys : {U : Type 0} (rows : List (Elem × U)) (x : Elem) → is_some (value_at rows x) ≡ true → list_any (λ k. same k x) (keys_of rows) ≡ true
+among_keys [] x h = absurd (cc)
+among_keys (row ∷ rows) x h = by (same x row.0) refl h (among_keys rows x)
+  where
+    last : (c b : Bool) → b ≡ true → (c || b) ≡ true
+    last true b e = refl
+    last false b e = e
+
+    by : (s : Bool) → same x row.0 ≡ s → is_some (cond s (Some row.1) (value_at rows x)) ≡ true → (is_some (value_at rows x) ≡ true → list_any (λ k. same k x) (keys_of rows) ≡ true)
+        → (same row.0 x || list_any (λ k. same k x) (keys_of rows)) ≡ true
+    by true e f ih = ap (λ b. b || list_any (λ k. same k x) (keys_of rows)) ((same-Decides row.0 x).1 (sym ((same-Decides x row.0).0 e)))
+    by false e f ih = last (same row.0 x) (list_any (λ k. same k x) (keys_of rows)) (ih f)
+
+-- each row that passes has one of the keys
+pub keys_cover : {V U : Type 0} (row_of : Elem → V → Item) → ((k : Elem) (v : V) → key_of (row_of k v) ≡ k) → (passes : Item → Bool) (keys all : List (Elem × U)) → all ≡ keys
+    → ((item : Item) → passes item ≡ true → is_some (value_at keys (key_of item)) ≡ true) → (row : Elem × V) → passes (row_of row.0 row.1) ≡ true → list_any (λ k. same k row.0) (keys_of all) ≡ true
+keys_cover {V} {U} row_of kept passes keys all e covers row h =
+    ap (λ (rows : List (Elem × U)). list_any (λ k. same k row.0) (keys_of rows)) e
+    ∙ among_keys keys row.0 (ap (λ (x : Elem). is_some (value_at keys x)) (sym (kept row.0 row.1)) ∙ covers (row_of row.0 row.1) h)

@@ -1,11 +1,12 @@
 -- The rows that a view takes stand in the lane of its base, and have the keys of its items.
-use Rattle.std.proofs.Common.{◌≡◌, ℕ, zero, suc, ◌<◌, Bool, true, false, cond, ◌&&◌, ◌||◌, List, [], ◌∷◌, length, map, set, refl, sym, ap, ◌∙◌, subst}
-use Rattle.std.specs.Prelude.{filter, slice_get, Option, Some, None, option_map}
-use Rattle.std.specs.List.{IsDistinct, list_any}
+use Rattle.std.proofs.Common.{◌≡◌, ℕ, zero, suc, ◌<◌, Bool, true, false, cond, ◌&&◌, List, [], ◌∷◌, length, map, set, refl, sym, ap, ◌∙◌, subst}
+use Rattle.std.specs.Prelude.{filter, slice_get, is_some, Option, Some, None, option_map}
+use Rattle.std.specs.List.{IsDistinct}
 use Rattle.std.specs.Option.{unwrap_or}
 use Rattle.std.proofs.lemmas.Option.{same_Some}
 use Rattle.elem.specs.declared.elements.Elem.{Elem}
 use Rattle.elem.specs.Elements.{same}
+use Rattle.elem.specs.Keyed.{value_at}
 use Rattle.elem.specs.ElementLaws.{same-Decides}
 use Rattle.view_steps.specs.declared.items.Item.{Item}
 use Rattle.view_steps.specs.declared.kinds.Kind.{Kind}
@@ -171,25 +172,13 @@ pub hit_in_lane : (world : World) (v : View) (p : Item → Bool) → base_under 
 hit_in_lane world v p lt s row h = takes_down world v All row lt s (hit_taken p (form_of v) row h).0 refl
 
 -- and has one of some keys where each item that passes has
-pub hit_of_keys : (world : World) (v : View) (p : Item → Bool) (keys : List Elem) → base_under v < length world → ((k : Elem) → IsStraight world v (OfKey k)) → ((item : Item) → p item ≡ true → list_any (λ k. same k (key_of item)) keys ≡ true)
-    → (row : Item) → is_row_hit p (form_of v) row ≡ true → list_any (λ k. same k (key_of row)) keys ≡ true
+pub hit_of_keys : {U : Type 0} (world : World) (v : View) (p : Item → Bool) (keys : List (Elem × U)) → base_under v < length world → ((k : Elem) → IsStraight world v (OfKey k)) → ((item : Item) → p item ≡ true → is_some (value_at keys (key_of item)) ≡ true)
+    → (row : Item) → is_row_hit p (form_of v) row ≡ true → is_some (value_at keys (key_of row)) ≡ true
 hit_of_keys world v p keys lt s covers row h =
     let parts = hit_taken p (form_of v) row h in
-    by keys (covers ((form_of v).item row) parts.1) (λ k here. same_key world v row k lt (s k) parts.0 here)
-  where
-    by : (ks : List Elem) → list_any (λ k. same k (key_of ((form_of v).item row))) ks ≡ true → ((k : Elem) → has_key k ((form_of v).item row) ≡ true → same k (key_of row) ≡ true) → list_any (λ k. same k (key_of row)) ks ≡ true
-    by [] e here = absurd (cc)
-    by (k ∷ ks) e here = one (same k (key_of ((form_of v).item row))) refl e (by ks)
-      where
-        one : (b : Bool) → same k (key_of ((form_of v).item row)) ≡ b → (b || list_any (λ k. same k (key_of ((form_of v).item row))) ks) ≡ true
-            → (list_any (λ k. same k (key_of ((form_of v).item row))) ks ≡ true → ((k : Elem) → has_key k ((form_of v).item row) ≡ true → same k (key_of row) ≡ true) → list_any (λ k. same k (key_of row)) ks ≡ true)
-            → (same k (key_of row) || list_any (λ k. same k (key_of row)) ks) ≡ true
-        one true f g rest = ap (λ c. c || list_any (λ k. same k (key_of row)) ks) (here k f)
-        one false f g rest = last (same k (key_of row)) (rest g here)
-          where
-            last : (c : Bool) → list_any (λ k. same k (key_of row)) ks ≡ true → (c || list_any (λ k. same k (key_of row)) ks) ≡ true
-            last true l = refl
-            last false l = l
+    let k : Elem = key_of ((form_of v).item row) in
+    let key : k ≡ key_of row = (same-Decides k (key_of row)).0 (same_key world v row k lt (s k) parts.0 ((same-Decides k k).1 refl)) in
+    ap (λ (x : Elem). is_some (value_at keys x)) (sym key) ∙ covers ((form_of v).item row) parts.1
 
 -- a step that leaves nothing out and hides nothing shows each row that the view below it shows
 pub shows_over : (family : Family) (step : Step) (f : RowForm) → (family ≡ Hidden → ⊥) → (family ≡ Cut → ⊥) → ((row : Item) → shows f row ≡ true) → (row : Item) → shows (form_over family step f) row ≡ true

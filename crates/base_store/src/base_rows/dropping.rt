@@ -1,9 +1,8 @@
 //! Rows that go from a base.
-ghost use Rattle.std.specs.Prelude.{◌≡◌, ℕ, List, [], Some, filter, not, true};
-ghost use Rattle.std.specs.List.{list_any};
+ghost use Rattle.std.specs.Prelude.{◌≡◌, ℕ, List, [], Some, filter, is_some, not, true};
 ghost use Rattle.base_store.specs.BaseRows.{kind_of, plain, rows_of};
 ghost use Rattle.base_store.specs.Reaches.{Reaches};
-ghost use Rattle.elem.specs.Elements.{same};
+ghost use Rattle.elem.specs.Keyed.{value_at};
 ghost use Rattle.view_steps.specs.declared.items.Item.{Item as AnItem};
 ghost use Rattle.view_steps.specs.Edits.{without_rows};
 ghost use Rattle.view_steps.specs.Items.{key_of};
@@ -20,7 +19,8 @@ use self::windowed::drop_sorted;
 use super::BaseRows;
 use crate::RowTest;
 use crate::reach::Reach;
-use elem::{Elem, Keyed, Steps};
+use elem::{Keyed, Steps};
+use linked_base::FreeLinkedMap;
 use std::sync::ledger::Ledger;
 use view_steps::{Lane, Place};
 
@@ -101,8 +101,13 @@ impl BaseRows {
     }
 
     /// Removes every row that passes a test, where each of them has one of some keys. A list is looked through.
-    fn drop_at<T: RowTest, L: Ledger>(&mut self, keys: &[Elem], test: &T, steps: &mut Steps<L>)
-        requires { (row : AnItem) → T.passes test.now row ≡ true → list_any (λ k. same k (key_of row)) keys.now ≡ true }
+    fn drop_at<T: RowTest, L: Ledger>(
+        &mut self,
+        keys: &FreeLinkedMap<()>,
+        test: &T,
+        steps: &mut Steps<L>,
+    )
+        requires { (row : AnItem) → T.passes test.now row ≡ true → is_some (value_at keys.now (key_of row)) ≡ true }
         ensures kind { kind_of self.new ≡ kind_of self.old }
         ensures rows { rows_of self.new ≡ filter (λ row. not (T.passes test.now row)) (rows_of self.old) }
     {

@@ -1,12 +1,12 @@
 //! Removing from a base what a view shows.
-ghost use Rattle.std.specs.Prelude.{◌≡◌, ◌<◌, ◌≤◌, ◌^◌, ◌++◌, length, true};
+ghost use Rattle.std.specs.Prelude.{◌≡◌, ◌<◌, ◌≤◌, ◌^◌, ◌++◌, is_some, length, true};
 ghost use Rattle.std.specs.List.{list_any};
 ghost use Rattle.base_store.specs.BaseLanes as spec;
 ghost use Rattle.base_store.specs.Hits.{StandBelow};
 ghost use Rattle.base_store.specs.Nodes.{view_at};
 ghost use Rattle.base_store.specs.Reaches.{Reaches};
 ghost use Rattle.base_store.specs.Stored.{view_in, with_world};
-ghost use Rattle.elem.specs.Elements.{same};
+ghost use Rattle.elem.specs.Keyed.{value_at};
 ghost use Rattle.view_steps.specs.declared.items.Item.{Item as AnItem};
 ghost use Rattle.view_steps.specs.declared.lanes.Lane.TheVariants as lanes;
 ghost use Rattle.view_steps.specs.Answering.{all_hits};
@@ -23,7 +23,8 @@ use super::writing::rows_at;
 use super::{Made, Slot, Store};
 use crate::reach::Reach;
 use crate::{AnyRef, Node, RowTest};
-use elem::{Elem, Steps};
+use elem::Steps;
+use linked_base::FreeLinkedMap;
 use std::sync::ledger::Ledger;
 use view_steps::{Family, Lane, family_of, narrow};
 
@@ -52,13 +53,13 @@ impl Store {
     pub fn drop_of_keys<T: RowTest, L: Ledger>(
         &mut self,
         n: AnyRef,
-        keys: &[Elem],
+        keys: &FreeLinkedMap<()>,
         test: &T,
         steps: &mut Steps<L>,
     ) -> bool
         requires node { n < length self.old.nodes }
         requires keyed { is_keyed (shape_at self.old.world (view_in self.old n)) ≡ true }
-        requires keys { (item : AnItem) → T.passes test.now item ≡ true → list_any (λ k. same k (key_of item)) keys.now ≡ true }
+        requires keys { (item : AnItem) → T.passes test.now item ≡ true → is_some (value_at keys.now (key_of item)) ≡ true }
         requires change { (base_at self.old.world (base_under (view_in self.old n))).change < 2 ^ 63 }
         ensures any { result ≡ list_any (T.passes test.now) (shown self.old.world (view_in self.old n)) }
         ensures after { self.new ≡ with_world self.old (world_after self.old.world (base_under (view_in self.old n)) (removing (all_hits (T.passes test.now) (candidates self.old.world (view_in self.old n))))) }

@@ -1,10 +1,9 @@
 //! Rows that go from a set or a map.
-ghost use Rattle.std.specs.Prelude.{◌≡◌, ◌≤◌, ◌+◌, ◌*◌, ℕ, List, Some, ◌∷◌, ◌++◌, ◌&&◌, cond, filter, length, map, not, true};
-ghost use Rattle.std.specs.List.{list_any};
+ghost use Rattle.std.specs.Prelude.{◌≡◌, ◌≤◌, ◌+◌, ◌*◌, ℕ, List, Some, ◌∷◌, ◌++◌, ◌&&◌, cond, filter, is_some, length, map, not, true};
 ghost use Rattle.base_store.specs.Journals.{items_by};
 ghost use Rattle.elem.specs.declared.elements.Elem.{Elem as Element};
 ghost use Rattle.elem.specs.Elements.{same};
-ghost use Rattle.elem.specs.Keyed.{IsPresent};
+ghost use Rattle.elem.specs.Keyed.{value_at, IsPresent};
 ghost use Rattle.elem.specs.Rows.{first_key};
 ghost use Rattle.view_steps.specs.declared.items.Item.{Item as AnItem};
 ghost use Rattle.view_steps.specs.Edits.{without_rows};
@@ -15,6 +14,7 @@ ghost use Rattle.view_steps.specs.Places.{key_place, IsRowAt};
 use super::super::placing::row_values::RowValue;
 use crate::RowTest;
 use elem::{Elem, Keyed, Steps};
+use linked_base::FreeLinkedMap;
 use std::sync::ledger::Ledger;
 use view_steps::Place;
 
@@ -75,16 +75,22 @@ pub fn drop_key<V: RowValue, K: Keyed<V>, T: RowTest, L: Ledger>(
 /// Removes every row that passes a test, where each of them has one of some keys.
 pub fn drop_keys<V: RowValue, K: Keyed<V>, T: RowTest, L: Ledger>(
     rows: &mut K,
-    keys: &[Elem],
+    keys: &FreeLinkedMap<()>,
     test: &T,
     steps: &mut Steps<L>,
 )
-    requires { (row : AnItem) → T.passes test.now row ≡ true → list_any (λ k. same k (key_of row)) keys.now ≡ true }
+    requires { (row : AnItem) → T.passes test.now row ≡ true → is_some (value_at keys.now (key_of row)) ≡ true }
     ensures rows { items_by V.row_of (K.rows rows.new) ≡ filter (λ row. not (T.passes test.now row)) (items_by V.row_of (K.rows rows.old)) }
     ensures steps { steps.new ≤ steps.old + 2 * length keys.now }
 {
-    for k in keys {
-        drop_key(rows, k, test, steps);
+    let count = keys.len();
+    let mut at = keys.first();
+    for _key in 0..count {
+        let Some(k) = at else {
+            return;
+        };
+        drop_key(rows, &k, test, steps);
+        at = keys.after(k);
     }
 }
 
