@@ -83,7 +83,7 @@ pub(crate) fn shown_at_key<L: Ledger>(
 }
 
 /// Whether no two items of a view of the shape have the same key.
-pub(crate) fn goes_by_key(shape: Shape) -> bool
+pub fn goes_by_key(shape: Shape) -> bool
     ensures { result ≡ is_keyed shape }
 {
     matches!(
