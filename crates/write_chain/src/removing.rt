@@ -16,7 +16,7 @@ ghost use Rattle.write_chain.specs.Calls.{Came, removed};
 
 use base_store::{AnyRef, Store};
 use elem::{Elem, Steps};
-use read_chain::{item_at, map_get, place_of, place_of_item, place_of_key};
+use read_chain::{item_at, place_and_value, place_of, place_of_item};
 use std::sync::ledger::Ledger;
 use view_steps::{Answer, Item, Refusal, key_of};
 
@@ -56,13 +56,12 @@ pub(crate) fn remove_key<L: Ledger>(
 {
     let b = store.base_of(n);
     let _left = store.rows_left();
-    let before = map_get(store, n, k, steps);
-    match place_of_key(store, n, k, steps) {
-        Some(place) => {
-            store.remove_row(b, &place, steps);
-            Answer::Optional(before)
+    match place_and_value(store, n, k, steps) {
+        Some(found) => {
+            store.remove_row(b, &found.0, steps);
+            Answer::Optional(Some(found.1))
         }
-        None => Answer::Optional(before),
+        None => Answer::Optional(None),
     }
 }
 

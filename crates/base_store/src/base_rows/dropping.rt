@@ -1,5 +1,5 @@
 //! Rows that go from a base.
-ghost use Rattle.std.specs.Prelude.{◌≡◌, ℕ, List, [], Some, filter, is_some, not, true};
+ghost use Rattle.std.specs.Prelude.{◌≡◌, ◌≤◌, ◌+◌, ℕ, List, [], Some, filter, is_some, not, true};
 ghost use Rattle.base_store.specs.BaseRows.{kind_of, plain, rows_of};
 ghost use Rattle.base_store.specs.Reaches.{Reaches};
 ghost use Rattle.elem.specs.Keyed.{value_at};
@@ -30,6 +30,7 @@ impl BaseRows {
         requires { IsFrom (places_of (plain self.old)) (Some at.now) }
         ensures kind { kind_of self.new ≡ kind_of self.old }
         ensures rows { (numbers : List ℕ) → IsRowAt (rows_of self.old) at.now numbers → rows_of self.new ≡ without_rows numbers 0 (rows_of self.old) }
+        ensures steps { steps.new ≤ steps.old + 1 }
     {
         match self {
             BaseRows::ArrayList(rows) => remove_index(rows, at, steps),

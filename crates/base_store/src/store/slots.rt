@@ -29,6 +29,7 @@ impl Slot {
         ensures ok { OnOk result (self.new ≡ edited self.old (adding spot (row.now ∷ []))) }
         ensures keys { OnOk result (HasKeys self.new) }
         ensures err { OnErr result (self.new ≡ self.old) }
+        ensures steps { steps.new ≤ steps.old + 2 }
     {
         let before = self.rows.len();
         let Ok(()) = self.rows.place(spot, row, steps) else {
@@ -75,6 +76,7 @@ impl Slot {
         requires place { IsFrom (places_of self.old) (Some at.now) }
         ensures after { (numbers : List ℕ) → IsRowAt self.old.rows at.now numbers → self.new ≡ edited self.old (removing numbers) }
         ensures keys { HasKeys self.new }
+        ensures steps { steps.new ≤ steps.old + 1 }
     {
         let before = self.rows.len();
         self.rows.remove(at, steps);

@@ -45,6 +45,7 @@ impl Store {
         ensures few { rows_in self.new.world ≤ most_rows }
         ensures err { OnErr result (self.new ≡ self.old) }
         ensures cause { IfErr result (λ why. ((why ≡ refusals.Limit) × (most_rows < rows_in (world_after self.old.world b (adding spot (row.now ∷ []))))) ⊎ (why ≡ refusals.NoMemory)) }
+        ensures steps { steps.new ≤ steps.old + 3 }
     {
         let at = b.number();
         let before = rows_at(self.slots.as_slice(), at);
@@ -101,6 +102,7 @@ impl Store {
         requires place { IsFrom (spec.places self.old.world (base b)) (Some at.now) }
         ensures after { (numbers : List ℕ) → spec.IsRowAt (base_at self.old.world b).rows at.now numbers → self.new ≡ with_world self.old (world_after self.old.world b (removing numbers)) }
         ensures few { rows_in self.new.world ≤ most_rows }
+        ensures steps { steps.new ≤ steps.old + 1 }
     {
         let number = b.number();
         let before = rows_at(self.slots.as_slice(), number);
@@ -129,7 +131,8 @@ fn is_full<L: Ledger>(
     steps: &mut Steps<L>,
 ) -> bool
     requires { b < length slots.now }
-    ensures { result ≡ (nat_eq rows most_rows && is_one_more (base_at slots.now b).kind spot (base_at slots.now b).rows row.now) }
+    ensures full { result ≡ (nat_eq rows most_rows && is_one_more (base_at slots.now b).kind spot (base_at slots.now b).rows row.now) }
+    ensures steps { steps.new ≤ steps.old + 1 }
 {
     if rows != MOST_ROWS {
         return false;
@@ -140,7 +143,8 @@ fn is_full<L: Ledger>(
 
 /// Whether a row that comes to a spot is one more.
 fn adds<L: Ledger>(rows: &BaseRows, spot: Spot, row: &Item, steps: &mut Steps<L>) -> bool
-    ensures { result ≡ is_one_more (kind_of rows.now) spot (rows_of rows.now) row.now }
+    ensures added { result ≡ is_one_more (kind_of rows.now) spot (rows_of rows.now) row.now }
+    ensures steps { steps.new ≤ steps.old + 1 }
 {
     match spot {
         Spot::Own => {
@@ -176,6 +180,7 @@ fn place_in<L: Ledger>(
     ensures ok { OnOk result (slots.new.items ≡ world_after slots.old.items b (adding spot (row.now ∷ []))) }
     ensures keys { OnOk result (HasKeys (edited (base_at slots.old.items b) (adding spot (row.now ∷ [])))) }
     ensures err { OnErr result (slots.new.items ≡ slots.old.items) }
+    ensures steps { steps.new ≤ steps.old + 2 }
 {
     let slot = &mut slots[b];
     slot.place(spot, row, steps)
@@ -213,6 +218,7 @@ fn remove_in<L: Ledger>(slots: &mut Vec<Slot>, b: usize, at: &Place, steps: &mut
     requires place { IsFrom (spec.places slots.old.items (base b)) (Some at.now) }
     ensures after { (numbers : List ℕ) → spec.IsRowAt (base_at slots.old.items b).rows at.now numbers → slots.new.items ≡ world_after slots.old.items b (removing numbers) }
     ensures keys { (numbers : List ℕ) → spec.IsRowAt (base_at slots.old.items b).rows at.now numbers → HasKeys (edited (base_at slots.old.items b) (removing numbers)) }
+    ensures steps { steps.new ≤ steps.old + 1 }
 {
     let slot = &mut slots[b];
     slot.remove(at, steps);

@@ -25,7 +25,8 @@ pub fn remove_key<V: RowValue, K: Keyed<V>, L: Ledger>(
     steps: &mut Steps<L>,
 )
     requires { IsFrom (map key_place (items_by V.row_of (K.rows rows.old))) (Some at.now) }
-    ensures { (numbers : List ℕ) → IsRowAt (items_by V.row_of (K.rows rows.old)) at.now numbers → items_by V.row_of (K.rows rows.new) ≡ without_rows numbers 0 (items_by V.row_of (K.rows rows.old)) }
+    ensures rows { (numbers : List ℕ) → IsRowAt (items_by V.row_of (K.rows rows.old)) at.now numbers → items_by V.row_of (K.rows rows.new) ≡ without_rows numbers 0 (items_by V.row_of (K.rows rows.old)) }
+    ensures steps { steps.new ≤ steps.old + 1 }
 {
     let _len = rows.len();
     if let Place::Key(k) = at {

@@ -20,6 +20,7 @@ fn put<V: Copy, K: Keyed<V>, L: Ledger>(
     ensures ok { OnOk result (K.rows rows.new ≡ with_row K.inserted (K.rows rows.old) k.now v) }
     ensures before { IfOk result (λ before. before ≡ value_at (K.rows rows.old) k.now) }
     ensures err { OnErr result (K.rows rows.new ≡ K.rows rows.old) }
+    ensures steps { steps.new ≤ steps.old + 2 }
 {
     if let Some(before) = rows.probe(*k, steps) {
         rows.replace(*k, v, steps);
@@ -39,6 +40,7 @@ pub fn put_row<V: RowValue, K: Keyed<V>, L: Ledger>(
 ) -> Result<(), NoMemory>
     ensures ok { OnOk result (K.rows rows.new ≡ with_item K.inserted V.value_in (K.rows rows.old) row.now) }
     ensures err { OnErr result (K.rows rows.new ≡ K.rows rows.old) }
+    ensures steps { steps.new ≤ steps.old + 2 }
 {
     match put(rows, &key_of(row), V::value(row), steps) {
         Ok(_) => Ok(()),

@@ -23,6 +23,7 @@ pub fn place_item<L: Ledger>(
     requires { IsSpotIn ArrayList (length rows.old) spot }
     ensures ok { OnOk result (items rows.new ≡ placed_at ArrayList spot (items rows.old) (One x)) }
     ensures err { OnErr result (items rows.new ≡ items rows.old) }
+    ensures steps { steps.new ≤ steps.old + 1 }
 {
     match spot {
         Spot::Own => {

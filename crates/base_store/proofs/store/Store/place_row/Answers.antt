@@ -10,7 +10,7 @@ pub returns-then-is_full-clause-cause : goal.returns-then-is_full-clause-cause
 returns-then-is_full-clause-cause c d =
     let lt = rw (← d.self.view_is, ← d.number-at.ensures) at d.requires.base in
     let spot = rw (← d.self.view_is, ← d.number-at.ensures) at d.requires.spot in
-    let full = rw (d.as_slice-2.ensures.value, d.self.invariant.counted) at (sym d.is_full.ensures ∙ d.if-is_full.true) in
+    let full = rw (d.as_slice-2.ensures.value, d.self.invariant.counted) at (sym d.is_full.ensures.full ∙ d.if-is_full.true) in
     inl (refl, rw (← d.self.view_is, ← d.number-at.ensures) (row_too_many d.self.inside.slots.items d.number-at.result d.args.spot d.args.row.now lt spot full))
 
 pub overflow_sub-self : goal.overflow_sub-self
@@ -20,7 +20,7 @@ overflow_sub-self c d =
     let spot = rw (← d.self.view_is, ← d.number-at.ensures) at d.requires.spot in
     let was = rw d.as_slice.ensures.value at d.rows_at-before.ensures in
     let is = rw (d.as_slice-3.ensures.value, d.in-Ok.ensures.ok) at d.rows_at-after.ensures in
-    let full = rw d.as_slice-2.ensures.value at (sym d.is_full.ensures ∙ d.if-is_full.false) in
+    let full = rw d.as_slice-2.ensures.value at (sym d.is_full.ensures.full ∙ d.if-is_full.false) in
     let keys = d.in-Ok.ensures.keys in
     let room = row_fits d.self.inside.rows (base_at d.self.inside.slots.items d.number-at.result) d.args.spot d.args.row.now d.self.invariant.few spot full keys in
     let h = sound_edited s d.self.inside.rows d.number-at.result d.rows_at-before.result d.rows_at-after.result (adding d.args.spot (d.args.row.now ∷ [])) d.self.invariant lt keys was is room in
@@ -33,7 +33,7 @@ overflow_add-self c d =
     let spot = rw (← d.self.view_is, ← d.number-at.ensures) at d.requires.spot in
     let was = rw d.as_slice.ensures.value at d.rows_at-before.ensures in
     let is = rw (d.as_slice-3.ensures.value, d.in-Ok.ensures.ok) at d.rows_at-after.ensures in
-    let full = rw d.as_slice-2.ensures.value at (sym d.is_full.ensures ∙ d.if-is_full.false) in
+    let full = rw d.as_slice-2.ensures.value at (sym d.is_full.ensures.full ∙ d.if-is_full.false) in
     let keys = d.in-Ok.ensures.keys in
     let room = row_fits d.self.inside.rows (base_at d.self.inside.slots.items d.number-at.result) d.args.spot d.args.row.now d.self.invariant.few spot full keys in
     let h = sound_edited s d.self.inside.rows d.number-at.result d.rows_at-before.result d.rows_at-after.result (adding d.args.spot (d.args.row.now ∷ [])) d.self.invariant lt keys was is room in
@@ -46,7 +46,7 @@ invariant_of-self-2 c d =
     let spot = rw (← d.self.view_is, ← d.number-at.ensures) at d.requires.spot in
     let was = rw d.as_slice.ensures.value at d.rows_at-before.ensures in
     let is = rw (d.as_slice-3.ensures.value, d.in-Ok.ensures.ok) at d.rows_at-after.ensures in
-    let full = rw d.as_slice-2.ensures.value at (sym d.is_full.ensures ∙ d.if-is_full.false) in
+    let full = rw d.as_slice-2.ensures.value at (sym d.is_full.ensures.full ∙ d.if-is_full.false) in
     let keys = d.in-Ok.ensures.keys in
     let room = row_fits d.self.inside.rows (base_at d.self.inside.slots.items d.number-at.result) d.args.spot d.args.row.now d.self.invariant.few spot full keys in
     let h = sound_edited s d.self.inside.rows d.number-at.result d.rows_at-before.result d.rows_at-after.result (adding d.args.spot (d.args.row.now ∷ [])) d.self.invariant lt keys was is room in
@@ -59,7 +59,7 @@ returns-clause-few c d =
     let spot = rw (← d.self.view_is, ← d.number-at.ensures) at d.requires.spot in
     let was = rw d.as_slice.ensures.value at d.rows_at-before.ensures in
     let is = rw (d.as_slice-3.ensures.value, d.in-Ok.ensures.ok) at d.rows_at-after.ensures in
-    let full = rw d.as_slice-2.ensures.value at (sym d.is_full.ensures ∙ d.if-is_full.false) in
+    let full = rw d.as_slice-2.ensures.value at (sym d.is_full.ensures.full ∙ d.if-is_full.false) in
     let keys = d.in-Ok.ensures.keys in
     let room = row_fits d.self.inside.rows (base_at d.self.inside.slots.items d.number-at.result) d.args.spot d.args.row.now d.self.invariant.few spot full keys in
     let h = sound_edited s d.self.inside.rows d.number-at.result d.rows_at-before.result d.rows_at-after.result (adding d.args.spot (d.args.row.now ∷ [])) d.self.invariant lt keys was is room in
