@@ -72,6 +72,10 @@ module _ {V : Type 0} where
   pub next_key : (old front rest : List (Elem × V)) (k : Elem) (v : V) → HasDistinctKeys old → old ≡ front ++ (k, v) ∷ rest → key_after (same k) old ≡ first_key rest
   next_key old front rest k v d e = let none = none_before front k v rest (subst HasDistinctKeys e d) in ap (key_after (same k)) e ∙ key_after_at (same k) front (k, v) rest none ((same-Decides k k).1 refl)
 
+  pub value_here : (old front rest : List (Elem × V)) (k : Elem) (v : V) → HasDistinctKeys old → old ≡ front ++ (k, v) ∷ rest → value_at old k ≡ Some v
+  value_here old front rest k v d e =
+      ap (λ (rows : List (Elem × V)). value_at rows k) e ∙ lookup_at (same k) front (k, v) rest (none_before front k v rest (subst HasDistinctKeys e d)) ((same-Decides k k).1 refl)
+
   pub dropped : (old new front rest : List (Elem × V)) (k : Elem) (v w : V) (test : V → Bool) → HasDistinctKeys old → Some w ≡ value_at old k → new ≡ cond (test w) (without old k) old → old ≡ front ++ (k, v) ∷ rest
       → new ≡ front ++ cond (test v) rest ((k, v) ∷ rest)
   dropped old new front rest k v w test d is new_is e =

@@ -1,5 +1,5 @@
 //! Adding items to a view that allows it.
-ghost use Rattle.std.specs.Prelude.{◌≡◌, ◌<◌, ◌^◌, ◌∷◌, [], length, true};
+ghost use Rattle.std.specs.Prelude.{◌≡◌, ◌<◌, ◌≤◌, ◌+◌, ◌^◌, ◌∷◌, [], length, true};
 ghost use Rattle.base_store.specs.BaseRows.{AreRowsOf, IsFree, IsRowOf, IsSpotIn};
 ghost use Rattle.base_store.specs.Stored.{view_in};
 ghost use Rattle.view_steps.specs.Limits.{ChangesUpTo};
@@ -25,7 +25,8 @@ pub(crate) fn add_one<L: Ledger>(
     requires fits { IsRowOf (base_at store.old.world (base_under (view_in store.old n))).kind item.now }
     requires spot { IsSpotIn (base_at store.old.world (base_under (view_in store.old n))).kind (length (base_at store.old.world (base_under (view_in store.old n))).rows) spot }
     requires change { ChangesUpTo (2 ^ 62) store.old.world }
-    ensures { Came result store.old store.new (added store.old.world (view_in store.old n) (item.now ∷ []) spot answer) }
+    ensures came { Came result store.old store.new (added store.old.world (view_in store.old n) (item.now ∷ []) spot answer) }
+    ensures steps { steps.new ≤ steps.old + 3 }
 {
     if !lifts(store, n, item) {
         return Err(Refusal::IllegalArgument);

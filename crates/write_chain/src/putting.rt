@@ -1,10 +1,11 @@
 //! The calls that add one item to a view that allows it.
-ghost use Rattle.std.specs.Prelude.{◌≡◌, ◌<◌, ◌^◌, length, true};
+ghost use Rattle.std.specs.Prelude.{◌≡◌, ◌<◌, ◌≤◌, ◌+◌, ◌^◌, length, true};
 ghost use Rattle.base_store.specs.Stored.{view_in};
 ghost use Rattle.view_steps.specs.Answering.{answered};
 ghost use Rattle.view_steps.specs.Calls as spec;
 ghost use Rattle.view_steps.specs.Indexes.{is_list};
 ghost use Rattle.view_steps.specs.Limits.{ChangesUpTo};
+ghost use Rattle.view_steps.specs.Shapes.{is_keyed};
 ghost use Rattle.view_steps.specs.Views.{flags_at, shape_at};
 ghost use Rattle.view_steps.specs.declared.calls.Call.TheVariants as calls;
 ghost use Rattle.view_steps.specs.declared.calls.OnElement.TheVariants as on_element;
@@ -39,7 +40,8 @@ pub(crate) fn add<L: Ledger>(
     requires elements { spec.is_elements (shape_at store.old.world (view_in store.old n)) ≡ true }
     requires adds { (flags_at store.old.world (view_in store.old n)).add ≡ true }
     requires change { ChangesUpTo (2 ^ 62) store.old.world }
-    ensures { Came result store.old store.new (answered store.old.world (view_in store.old n) (calls.Element on_element.Add x.now)) }
+    ensures came { Came result store.old store.new (answered store.old.world (view_in store.old n) (calls.Element on_element.Add x.now)) }
+    ensures steps { is_keyed (shape_at store.old.world (view_in store.old n)) ≡ true → steps.new ≤ steps.old + 4 }
 {
     let item = Item::One(*x);
     let old = is_set(store, n) && contains(store, n, &item, steps);
@@ -116,7 +118,8 @@ pub(crate) fn put<L: Ledger>(
     requires map { spec.is_map (shape_at store.old.world (view_in store.old n)) ≡ true }
     requires adds { (flags_at store.old.world (view_in store.old n)).add ≡ true }
     requires change { ChangesUpTo (2 ^ 62) store.old.world }
-    ensures { Came result store.old store.new (answered store.old.world (view_in store.old n) (calls.Pair on_pair.Put k.now w.now)) }
+    ensures came { Came result store.old store.new (answered store.old.world (view_in store.old n) (calls.Pair on_pair.Put k.now w.now)) }
+    ensures steps { steps.new ≤ steps.old + 4 }
 {
     let before = map_get(store, n, k, steps);
     add_one(

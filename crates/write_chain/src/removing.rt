@@ -1,5 +1,5 @@
 //! The calls that remove one item of a view that allows it.
-ghost use Rattle.std.specs.Prelude.{◌≡◌, ◌<◌, ◌^◌, Ok, length, true, ◌≢◌, Err};
+ghost use Rattle.std.specs.Prelude.{◌≡◌, ◌<◌, ◌≤◌, ◌+◌, ◌^◌, Ok, length, true, ◌≢◌, Err};
 ghost use Rattle.base_store.specs.Stored.{view_in};
 ghost use Rattle.view_steps.specs.Answering.{answered, first_hit};
 ghost use Rattle.view_steps.specs.Answers as spec;
@@ -29,7 +29,8 @@ pub(crate) fn remove_item<L: Ledger>(
 ) -> Answer
     requires node { n < length store.old.nodes }
     requires change { ChangesUpTo (2 ^ 62) store.old.world }
-    ensures { Came (Ok result) store.old store.new (removed store.old.world (view_in store.old n) (first_hit (same_item item.now) (candidates store.old.world (view_in store.old n))) (answers.Truth (spec.is_shown (shown store.old.world (view_in store.old n)) item.now))) }
+    ensures came { Came (Ok result) store.old store.new (removed store.old.world (view_in store.old n) (first_hit (same_item item.now) (candidates store.old.world (view_in store.old n))) (answers.Truth (spec.is_shown (shown store.old.world (view_in store.old n)) item.now))) }
+    ensures steps { is_keyed (shape_at store.old.world (view_in store.old n)) ≡ true → steps.new ≤ steps.old + 2 }
 {
     let b = store.base_of(n);
     let _left = store.rows_left();
@@ -52,7 +53,8 @@ pub(crate) fn remove_key<L: Ledger>(
     requires node { n < length store.old.nodes }
     requires keyed { is_keyed (shape_at store.old.world (view_in store.old n)) ≡ true }
     requires change { ChangesUpTo (2 ^ 62) store.old.world }
-    ensures { Came (Ok result) store.old store.new (removed store.old.world (view_in store.old n) (first_hit (spec.has_key k.now) (candidates store.old.world (view_in store.old n))) (answers.Optional (spec.value_shown (shown store.old.world (view_in store.old n)) k.now))) }
+    ensures came { Came (Ok result) store.old store.new (removed store.old.world (view_in store.old n) (first_hit (spec.has_key k.now) (candidates store.old.world (view_in store.old n))) (answers.Optional (spec.value_shown (shown store.old.world (view_in store.old n)) k.now))) }
+    ensures steps { steps.new ≤ steps.old + 2 }
 {
     let b = store.base_of(n);
     let _left = store.rows_left();

@@ -34,27 +34,6 @@ pub fn remove_key<V: RowValue, K: Keyed<V>, L: Ledger>(
     }
 }
 
-/// Removes the row of a key where it passes a test, and tells the key behind it.
-fn drop_row<V: RowValue, K: Keyed<V>, T: RowTest, L: Ledger>(
-    rows: &mut K,
-    k: &Elem,
-    test: &T,
-    steps: &mut Steps<L>,
-) -> Option<Elem>
-    requires { IsPresent (K.rows rows.old) k.now }
-    ensures next { (front rest : List (Element × V)) (v : V) → K.rows rows.old ≡ front ++ (k.now, v) ∷ rest → result ≡ first_key rest }
-    ensures rows { (front rest : List (Element × V)) (v : V) → K.rows rows.old ≡ front ++ (k.now, v) ∷ rest → K.rows rows.new ≡ front ++ cond (T.passes test.now (V.row_of k.now v)) rest ((k.now, v) ∷ rest) }
-{
-    let _len = rows.len();
-    let next = rows.after(*k, steps);
-    if let Some(v) = rows.probe(*k, steps) {
-        if test.test(&V::row(*k, v)) {
-            rows.remove(*k, steps);
-        }
-    }
-    next
-}
-
 /// Removes the row of a key where it passes a test.
 pub fn drop_key<V: RowValue, K: Keyed<V>, T: RowTest, L: Ledger>(
     rows: &mut K,
@@ -71,6 +50,23 @@ pub fn drop_key<V: RowValue, K: Keyed<V>, T: RowTest, L: Ledger>(
             rows.remove(*k, steps);
         }
     }
+}
+
+/// Removes the row of a key where it passes a test, and tells the key behind it.
+fn drop_row<V: RowValue, K: Keyed<V>, T: RowTest, L: Ledger>(
+    rows: &mut K,
+    k: &Elem,
+    test: &T,
+    steps: &mut Steps<L>,
+) -> Option<Elem>
+    requires { IsPresent (K.rows rows.old) k.now }
+    ensures next { (front rest : List (Element × V)) (v : V) → K.rows rows.old ≡ front ++ (k.now, v) ∷ rest → result ≡ first_key rest }
+    ensures rows { (front rest : List (Element × V)) (v : V) → K.rows rows.old ≡ front ++ (k.now, v) ∷ rest → K.rows rows.new ≡ front ++ cond (T.passes test.now (V.row_of k.now v)) rest ((k.now, v) ∷ rest) }
+{
+    let _len = rows.len();
+    let next = rows.after(*k, steps);
+    drop_key(rows, k, test, steps);
+    next
 }
 
 /// Removes every row that passes a test, where each of them has one of some keys.

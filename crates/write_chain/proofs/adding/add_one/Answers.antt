@@ -8,15 +8,15 @@ use Rattle.view_steps.proofs.LiftLemmas.{one_test}
 pub place_row-requires-clause-change : goal.place_row-requires-clause-change
 place_row-requires-clause-change g c = room _ _ c.requires.change
 
-pub returns-in-Ok : goal.returns-in-Ok
-returns-in-Ok g c =
+pub returns-in-Ok-clause-came : goal.returns-in-Ok-clause-came
+returns-in-Ok-clause-came g c =
     let s = c.args.store.now in
     let v = view_in s c.args.n in
     add_placed s c.place_row.new.self v (c.args.item.now ∷ []) c.args.spot c.args.answer true c.base_of-b.result (one_test v c.args.item.now true c.if-not-lifts.ensures) refl c.base_of-b.ensures.base
     c.in-Ok.ensures.ok c.in-Ok.ensures.few
 
-pub returns-in-Err : goal.returns-in-Err
-returns-in-Err g c =
+pub returns-in-Err-clause-came : goal.returns-in-Err-clause-came
+returns-in-Err-clause-came g c =
     let s = c.args.store.now in
     let v = view_in s c.args.n in
     add_stopped s c.place_row.new.self v (c.args.item.now ∷ []) c.args.spot c.args.answer true c.base_of-b.result c.in-Err.why (one_test v c.args.item.now true c.if-not-lifts.ensures) refl c.base_of-b.ensures.base

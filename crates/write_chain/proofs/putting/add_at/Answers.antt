@@ -28,4 +28,4 @@ returns g c =
     subst (Came c.add_one.result s c.add_one.new.store)
     (sym (add_at_given s.world v c.base_of.result c.len-rows.result c.args.i c.in-Some.at c.gap_index.result c.args.x.now (record { base = c.base_of.ensures.base; rows_are = c.len-rows.ensures.len; index = c.in-Some.is })
     c.base_of.ensures.made c.requires.adds c.requires.list c.if-at-rows.false c.gap_index.ensures.index))
-    c.add_one.ensures
+    c.add_one.ensures.came

@@ -28,4 +28,4 @@ returns g c =
     subst (Came c.add_one.result s c.add_one.new.store)
     (sym (set_at_given s.world v c.base_of.result c.len-rows.result c.args.i c.in-Some.at c.item_index.result c.args.x.now c.in-Some-item_at.before c.key_of.result
     (record { base = c.base_of.ensures.base; rows_are = c.len-rows.ensures.len; index = c.in-Some.is }) c.requires.adds c.in-Some-item_at.ensures c.item_index.ensures.index c.key_of.ensures))
-    c.add_one.ensures
+    c.add_one.ensures.came
