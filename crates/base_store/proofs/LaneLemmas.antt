@@ -129,13 +129,13 @@ takes_down world v lane row lt s taken in_lane = by (takes (base_lane v lane) ro
         let keys : HasKeys (base_at w (base_under v)) = subst (λ (it : Base). HasKeys it) (sym at) (one_key (base_at world (base_under v)) row) in
         let down = line_down world w v lane false s in
         let line_is : line w v lane false ≡ [] =
-            down.1
-            ∙ ap (λ (it : Base). line_of (base_lane v lane) down.0 (λ p. option_map found_row (row_at it.rows p)) (places_of it)) at
-            ∙ no_line (base_at world (base_under v)) row (base_lane v lane) down.0 e in
+        down.1
+        ∙ ap (λ (it : Base). line_of (base_lane v lane) down.0 (λ p. option_map found_row (row_at it.rows p)) (places_of it)) at
+        ∙ no_line (base_at world (base_under v)) row (base_lane v lane) down.0 e in
         let found : map (show w v) (line w v lane false) ≡ Some (found_row_by (form_of v) row) ∷ [] =
-            labels_in w v lane keys
-            ∙ ap (λ (ds : List Found). map Some (filter (λ (d : Found). takes lane d.item) ds)) (found_alone world v row lt taken)
-            ∙ ap (λ b. map Some (cond b (found_row_by (form_of v) row ∷ []) [])) in_lane in
+        labels_in w v lane keys
+        ∙ ap (λ (ds : List Found). map Some (filter (λ (d : Found). takes lane d.item) ds)) (found_alone world v row lt taken)
+        ∙ ap (λ b. map Some (cond b (found_row_by (form_of v) row ∷ []) [])) in_lane in
         let empty : [] ≡ Some (found_row_by (form_of v) row) ∷ [] = sym (ap (map (show w v)) line_is) ∙ found in
         absurd (cc)
 
@@ -148,7 +148,7 @@ same_key world v row k lt s taken here =
     let keys : HasKeys (base_at w (base_under v)) = subst (λ (it : Base). HasKeys it) (sym at) (one_key (base_at world (base_under v)) row) in
     let straight = same_straight world w v (OfKey k) (ap (λ (it : Base). it.kind) at) s in
     let one : filter (λ (e : Found). has_key k e.item) (map found_in (candidates w v)) ≡ found_row_by (form_of v) row ∷ [] =
-        ap (filter (λ (e : Found). has_key k e.item)) (found_alone world v row lt taken) ∙ ap (λ b. cond b (found_row_by (form_of v) row ∷ []) []) here in
+    ap (filter (λ (e : Found). has_key k e.item)) (found_alone world v row lt taken) ∙ ap (λ b. cond b (found_row_by (form_of v) row ∷ []) []) here in
     let place = place_of_one w v k (found_row_by (form_of v) row) keys straight one in
     let down = place_in_base w v (Key k) (place.index, place.place) in
     only (is_keyed (shape_of_kind (base_at world (base_under v)).kind)) down.0 (ap (λ (it : Base). slice_get (places_of it) down.0) (sym at) ∙ down.1)

@@ -99,11 +99,11 @@ module _ {V : Type 0} {before : Elem → Elem → Bool} (o : IsStrictOrder befor
         ∙ filter-filter (λ (row : Elem × V). not (same k row.0 && test row)) (λ (row : Elem × V). lies_between before lo hi row.0 || not (test row)) old
         ∙ filter-same (λ (row : Elem × V). (lies_between before lo hi row.0 || not (test row)) && not (same k row.0 && test row)) (λ (row : Elem × V). lies_between before (Above k) hi row.0 || not (test row)) old
         (λ i row at.
-            stays (lies_between before lo hi row.0) (same k row.0) (before k row.0) (test row)
-            (λ b. first_or_behind part k row (in_order-filter before (λ (r : Elem × V). lies_between before lo hi r.0) old s) head (in_kept (λ (r : Elem × V). lies_between before lo hi r.0) old row i at b))
-            (λ h. subst (λ (x : Elem). lies_between before lo hi x ≡ true) ((same-Decides k row.0).0 h) inside)
-            (λ h. subst (λ (x : Elem). before k x ≡ false) ((same-Decides k row.0).0 h) (o.irreflexive k))
-            ∙ ap (λ b. b || not (test row)) (behind o lo hi k row.0 low))
+        stays (lies_between before lo hi row.0) (same k row.0) (before k row.0) (test row)
+        (λ b. first_or_behind part k row (in_order-filter before (λ (r : Elem × V). lies_between before lo hi r.0) old s) head (in_kept (λ (r : Elem × V). lies_between before lo hi r.0) old row i at b))
+        (λ h. subst (λ (x : Elem). lies_between before lo hi x ≡ true) ((same-Decides k row.0).0 h) inside)
+        (λ h. subst (λ (x : Elem). before k x ≡ false) ((same-Decides k row.0).0 h) (o.irreflexive k))
+        ∙ ap (λ b. b || not (test row)) (behind o lo hi k row.0 low))
 
     -- the rest of the window has fewer rows
     pub fewer_in_rest : (lo hi : Cut) (k : Elem) (old now : List (Elem × V)) → now ≡ gone_outside before test lo hi old → Some k ≡ first_key (rows_between before lo hi now) → length (rows_between before (Above k) hi old) < length (rows_between before lo hi old)
@@ -125,7 +125,7 @@ module _ {V : Type 0} {before : Elem → Elem → Bool} (o : IsStrictOrder befor
         let empty : None ≡ first_key (rows_between before lo hi old) = first_there lo hi old now None e none in
         e ∙ filter-same (λ (row : Elem × V). lies_between before lo hi row.0 || not (test row)) (λ (row : Elem × V). not (test row)) old
         (λ i row at. by (lies_between before lo hi row.0) (not (test row))
-            (λ b. none_left (rows_between before lo hi old) empty row (in_kept (λ (r : Elem × V). lies_between before lo hi r.0) old row i at b)))
+        (λ b. none_left (rows_between before lo hi old) empty row (in_kept (λ (r : Elem × V). lies_between before lo hi r.0) old row i at b)))
       where
         by : (b n : Bool) → (b ≡ true → ⊥) → (b || n) ≡ n
         by true n h = absurd (h refl)

@@ -17,8 +17,8 @@ ghost use Rattle.view_steps.specs.Views.{base, base_at, base_under, candidates};
 ghost use Rattle.view_steps.specs.declared.refusals.Refusal.TheVariants as refusals;
 
 use super::{MOST_ROWS, Slot, Store};
-use crate::base_rows::BaseRows;
 use crate::BaseId;
+use crate::base_rows::BaseRows;
 use elem::{NoMemory, Steps};
 use std::alloc::Global;
 use std::sync::ledger::Ledger;
