@@ -10,6 +10,7 @@ pub mod DropLemmas
 pub mod JournalLemmas
 pub mod ListRowLemmas
 pub mod PutLemmas
+pub mod FactLemmas
 pub mod BuiltLemmas
 pub mod SpotLemmas
 pub mod ShownLemmas

@@ -7,3 +7,5 @@ pub mod Nodes
 pub mod Stored
 pub mod Unfolding
 pub mod Journals
+pub mod Facts
+pub mod NodeLists

@@ -16,8 +16,9 @@ ghost use Rattle.view_steps.specs.Shapes.{is_keyed};
 ghost use Rattle.view_steps.specs.Views.{base, base_at, base_under, candidates};
 ghost use Rattle.view_steps.specs.declared.refusals.Refusal.TheVariants as refusals;
 
+use super::nodes::Nodes;
 use super::shown::Shown;
-use super::{MOST_ROWS, Made, Slot, Store};
+use super::{MOST_ROWS, Slot, Store};
 use crate::base_rows::BaseRows;
 use crate::{AnyRef, BaseId, RowTest};
 use elem::{NoMemory, Steps};
@@ -117,17 +118,9 @@ impl Store {
         ensures after { self.new ≡ with_world self.old (world_after self.old.world (base_under (view_in self.old n)) (removing (all_hits (T.passes test.now) (candidates self.old.world (view_in self.old n))))) }
         ensures few { rows_in self.new.world ≤ most_rows }
     {
-        let at = self.root_of(n).number();
+        let at = self.base_of(n).number();
         let before = rows_at(self.slots.as_slice(), at);
-        drop_in(
-            &mut self.slots,
-            at,
-            self.nodes.as_slice(),
-            self.temporary.as_slice(),
-            n.number(),
-            test,
-            steps,
-        );
+        drop_in(&mut self.slots, at, &self.nodes, n.number(), test, steps);
         let after = rows_at(self.slots.as_slice(), at);
         self.rows = self.rows - before + after;
     }
@@ -245,26 +238,20 @@ fn remove_in<L: Ledger>(slots: &mut Vec<Slot>, b: usize, at: &Place, steps: &mut
 fn drop_in<T: RowTest, L: Ledger>(
     slots: &mut Vec<Slot>,
     b: usize,
-    lasting: &[Made],
-    temporary: &[Made],
+    nodes: &Nodes,
     n: usize,
     test: &T,
     steps: &mut Steps<L>,
 )
     requires base { b < length slots.old.items }
     requires change { (base_at slots.old.items b).change < 2 ^ 63 }
-    requires within { n < length (lasting.now ++ temporary.now) }
-    requires below { StandBelow (lasting.now ++ temporary.now) }
-    requires under { b ≡ base_under (view_at (lasting.now ++ temporary.now) n) }
-    ensures after { slots.new.items ≡ world_after slots.old.items b (removing (all_hits (T.passes test.now) (candidates slots.old.items (view_at (lasting.now ++ temporary.now) n)))) }
-    ensures keys { HasKeys (edited (base_at slots.old.items b) (removing (all_hits (T.passes test.now) (candidates slots.old.items (view_at (lasting.now ++ temporary.now) n))))) }
+    requires within { n < length nodes.now.made }
+    requires below { StandBelow nodes.now.made }
+    requires under { b ≡ base_under (view_at nodes.now.made n) }
+    ensures after { slots.new.items ≡ world_after slots.old.items b (removing (all_hits (T.passes test.now) (candidates slots.old.items (view_at nodes.now.made n)))) }
+    ensures keys { HasKeys (edited (base_at slots.old.items b) (removing (all_hits (T.passes test.now) (candidates slots.old.items (view_at nodes.now.made n))))) }
 {
-    let shown = Shown {
-        lasting,
-        temporary,
-        n,
-        test,
-    };
+    let shown = Shown { nodes, n, test };
     let slot = &mut slots[b];
     slot.drop_all(&shown, steps);
 }

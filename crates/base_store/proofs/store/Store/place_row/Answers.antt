@@ -1,4 +1,4 @@
-use Rattle.std.proofs.Common.{◌++◌, ◌∷◌, [], ◌∙◌, sym, length, arith, inl, refl}
+use Rattle.std.proofs.Common.{◌∷◌, [], ◌∙◌, sym, arith, inl, refl}
 use Rattle.view_steps.specs.Edits.{adding}
 use Rattle.view_steps.specs.Views.{base_at}
 use Rattle.base_store.specs.Stored.{Stored}
@@ -15,7 +15,7 @@ returns-then-is_full-clause-cause c d =
 
 pub overflow_sub-self : goal.overflow_sub-self
 overflow_sub-self c d =
-    let s : Stored = record { world = d.self.inside.slots.items; nodes = d.self.inside.nodes.items ++ d.self.inside.temporary.items; lasting = length d.self.inside.nodes.items; handles = d.self.inside.handles } in
+    let s : Stored = record { world = d.self.inside.slots.items; nodes = d.self.inside.nodes.made; lasting = d.self.inside.nodes.lasting; handles = d.self.inside.handles } in
     let lt = rw (← d.self.view_is, ← d.number-at.ensures) at d.requires.base in
     let spot = rw (← d.self.view_is, ← d.number-at.ensures) at d.requires.spot in
     let was = rw d.as_slice.ensures.value at d.rows_at-before.ensures in
@@ -28,7 +28,7 @@ overflow_sub-self c d =
 
 pub overflow_add-self : goal.overflow_add-self
 overflow_add-self c d =
-    let s : Stored = record { world = d.self.inside.slots.items; nodes = d.self.inside.nodes.items ++ d.self.inside.temporary.items; lasting = length d.self.inside.nodes.items; handles = d.self.inside.handles } in
+    let s : Stored = record { world = d.self.inside.slots.items; nodes = d.self.inside.nodes.made; lasting = d.self.inside.nodes.lasting; handles = d.self.inside.handles } in
     let lt = rw (← d.self.view_is, ← d.number-at.ensures) at d.requires.base in
     let spot = rw (← d.self.view_is, ← d.number-at.ensures) at d.requires.spot in
     let was = rw d.as_slice.ensures.value at d.rows_at-before.ensures in
@@ -41,7 +41,7 @@ overflow_add-self c d =
 
 pub invariant_of-self-2 : goal.invariant_of-self-2
 invariant_of-self-2 c d =
-    let s : Stored = record { world = d.self.inside.slots.items; nodes = d.self.inside.nodes.items ++ d.self.inside.temporary.items; lasting = length d.self.inside.nodes.items; handles = d.self.inside.handles } in
+    let s : Stored = record { world = d.self.inside.slots.items; nodes = d.self.inside.nodes.made; lasting = d.self.inside.nodes.lasting; handles = d.self.inside.handles } in
     let lt = rw (← d.self.view_is, ← d.number-at.ensures) at d.requires.base in
     let spot = rw (← d.self.view_is, ← d.number-at.ensures) at d.requires.spot in
     let was = rw d.as_slice.ensures.value at d.rows_at-before.ensures in
@@ -54,7 +54,7 @@ invariant_of-self-2 c d =
 
 pub returns-clause-few : goal.returns-clause-few
 returns-clause-few c d =
-    let s : Stored = record { world = d.self.inside.slots.items; nodes = d.self.inside.nodes.items ++ d.self.inside.temporary.items; lasting = length d.self.inside.nodes.items; handles = d.self.inside.handles } in
+    let s : Stored = record { world = d.self.inside.slots.items; nodes = d.self.inside.nodes.made; lasting = d.self.inside.nodes.lasting; handles = d.self.inside.handles } in
     let lt = rw (← d.self.view_is, ← d.number-at.ensures) at d.requires.base in
     let spot = rw (← d.self.view_is, ← d.number-at.ensures) at d.requires.spot in
     let was = rw d.as_slice.ensures.value at d.rows_at-before.ensures in
