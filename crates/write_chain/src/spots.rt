@@ -4,23 +4,11 @@ ghost use Rattle.base_store.specs.BaseRows.{IsFree, IsSpotIn};
 ghost use Rattle.base_store.specs.Stored.{view_in};
 ghost use Rattle.view_steps.specs.Answering.{end_of_view};
 ghost use Rattle.view_steps.specs.Kinds.{shape_of_kind};
-ghost use Rattle.view_steps.specs.RowForm.{form_of};
 ghost use Rattle.view_steps.specs.Shapes.{is_keyed};
 ghost use Rattle.view_steps.specs.Views.{base_at, base_under};
 
-use base_store::{AnyRef, Node, Store};
-use view_steps::{Kind, Spot, flipped};
-
-/// Whether a view is walked from the back of its base.
-fn is_turned(store: &Store, n: AnyRef) -> bool
-    requires { n < length store.now.nodes }
-    ensures { result ≡ (form_of (view_in store.now n)).turned }
-{
-    match store.node(n) {
-        Node::Base(_) => false,
-        Node::Step { step, parent } => flipped(step, is_turned(store, parent)),
-    }
-}
+use base_store::{AnyRef, Store};
+use view_steps::{Kind, Spot};
 
 /// Whether bases of a kind are lists.
 fn is_list_kind(kind: Kind) -> bool
@@ -37,7 +25,7 @@ pub(crate) fn end_spot(store: &Store, n: AnyRef) -> Spot
     ensures free { IsFree result }
 {
     let kind = store.kind(store.base_of(n));
-    if is_list_kind(kind) && is_turned(store, n) {
+    if is_list_kind(kind) && store.is_turned(n) {
         Spot::Before(0)
     } else {
         Spot::Own
