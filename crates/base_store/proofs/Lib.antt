@@ -15,3 +15,4 @@ pub mod BuiltLemmas
 pub mod SpotLemmas
 pub mod ShownLemmas
 pub mod FitLemmas
+pub mod KeptLemmas

@@ -9,3 +9,5 @@ pub mod Unfolding
 pub mod Journals
 pub mod Facts
 pub mod NodeLists
+pub mod KeptSteps
+pub mod Codes

@@ -15,6 +15,7 @@ ghost use Rattle.view_steps.specs.Steps as table;
 ghost use Rattle.view_steps.specs.Views.{base, over, base_at, base_under, empty_base, path, shape_at, flags_at};
 
 mod facts;
+mod kept;
 mod nodes;
 mod reading;
 mod shown;
@@ -30,17 +31,11 @@ use std::alloc::Global;
 use std::marker::Model;
 use view_steps::{Flags, Kind, Order, Refusal, Shape, Step, order_of_kind};
 
-/// A node, as it is kept: the base of a number, or a step over the node of a number.
-#[derive(Clone, Copy, Debug)]
-pub enum Made {
+/// How a node was made: it is the base of a number, or a step over the node of a number.
+#[derive(Debug, Drop)]
+pub enum Made<'a> {
     Base(usize),
-    Over(Step, usize),
-}
-
-impl Default for Made {
-    fn default() -> Made {
-        Made::Base(0)
-    }
+    Over(Step<'a>, usize),
 }
 
 /// A base: its rows, how often one was added or removed, and whether it is frozen.
@@ -84,10 +79,10 @@ impl Model for Store {
 
     ghost Value = { Stored };
 
-    ghost use Rattle.base_store.specs.contracts.store.Made as made;
+    ghost use Rattle.base_store.specs.Codes.{made_code};
     ghost use Rattle.std.specs.Coded.{codes};
 
-    ghost coded = { Prim.hlevel (codes, made.the_row.coded) };
+    ghost coded = { Prim.hlevel (codes, made_code) };
 
     ghost view = { λ s. record { world = s.slots.items; nodes = s.nodes.made; lasting = s.nodes.lasting; handles = s.handles } };
 
@@ -185,18 +180,18 @@ impl Store {
         ensures { Unfolds self.now n result }
     {
         match self.made(n.number()) {
-            Made::Base(b) => Node::Base(BaseId::at(*b)),
+            Made::Base(b) => Node::Base(BaseId::at(b)),
             Made::Over(step, parent) => Node::Step {
                 step,
-                parent: AnyRef::at(*parent),
+                parent: AnyRef::at(parent),
             },
         }
     }
 
-    fn made(&self, n: usize) -> &Made
+    fn made(&self, n: usize) -> Made<'_>
         requires { n < length self.now.nodes }
-        ensures at { slice_get self.now.nodes n ≡ Some result.now }
-        ensures below { IsBelow (length self.now.world) n result.now }
+        ensures at { slice_get self.now.nodes n ≡ Some result }
+        ensures below { IsBelow (length self.now.world) n result }
     {
         self.nodes.made(n)
     }

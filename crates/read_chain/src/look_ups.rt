@@ -42,9 +42,9 @@ fn find_key<L: Ledger>(store: &Store, n: AnyRef, k: &Elem, steps: &mut Steps<L>)
             }),
             None => None,
         },
-        Node::Step { step, parent } => match key_below(step, k) {
+        Node::Step { step, parent } => match key_below(&step, k) {
             Some(below) => match find_key(store, parent, &below, steps) {
-                Some(found) => Some(found_over(step, &found)),
+                Some(found) => Some(found_over(&step, &found)),
                 None => None,
             },
             None => None,

@@ -1,52 +1,45 @@
 //! The nodes of a store: how each was made, and what is constant of its view.
-ghost use Rattle.std.specs.Prelude.{◌≡◌, ◌+◌, ◌<◌, ◌≤◌, ◌++◌, [], Some, length, slice_get, OnOk, OnErr};
+ghost use Rattle.std.specs.Prelude.{◌≡◌, ◌+◌, ◌<◌, [], Some, length, map, slice_get, OnOk, OnErr};
+ghost use Rattle.base_store.specs.KeptSteps.{AllStand, made_in};
 ghost use Rattle.base_store.specs.NodeLists.{all_kept, front, with_lasting, with_temporary};
 ghost use Rattle.base_store.specs.declared.store.Made.TheVariants.{Base as base_node, Over as step_node};
 
 use super::Made;
 use super::facts::Facts;
+use super::kept::{Kept, KeptMade, kept_step, lent_step};
 use arrayvec::ArrayVec;
 use elem::NoMemory;
+use fn_lang::Part;
 use std::alloc::Global;
 use std::marker::Model;
-use view_steps::{Kind, Step};
+use view_steps::Step;
 
-/// A node: how it was made, and its facts.
-#[derive(Clone, Copy, Debug)]
-struct Kept {
-    made: Made,
-    facts: Facts,
-}
-
-impl Default for Kept {
-    fn default() -> Kept {
-        Kept {
-            made: Made::default(),
-            facts: Facts::of_base(0, Kind::LinkedHashMap, false),
-        }
-    }
-}
-
-/// Nodes by their numbers: those that last, and behind them the temporary ones.
+/// Nodes by their numbers: those that last, and behind them the temporary ones. The parts of their predicates and
+/// functions stand in two tables in the same way.
 #[derive(Drop)]
 pub struct Nodes {
     lasting: Vec<Kept>,
     temporary: ArrayVec<Kept, 32>,
+    parts: Vec<Part>,
+    temporary_parts: ArrayVec<Part, 2048>,
 }
 
 impl Model for Nodes {
-    ghost use Rattle.std.specs.Prelude.{◌++◌, ◌≤◌, length, map};
     ghost use Rattle.base_store.specs.NodeLists.{NodeList};
 
     ghost Value = { NodeList };
 
-    ghost use Rattle.base_store.specs.contracts.store.Made as made;
+    ghost use Rattle.base_store.specs.Codes.{made_code};
     ghost use Rattle.base_store.specs.contracts.store.facts.Facts as facts;
     ghost use Rattle.std.specs.Coded.{codes};
 
-    ghost coded = { Prim.hlevel (codes, made.the_row.coded, facts.the_row.coded) };
+    ghost coded = { Prim.hlevel (codes, made_code, facts.the_row.coded) };
 
-    ghost view = { λ s. record { made = map (λ node. node.made) (s.lasting.items ++ s.temporary.items); facts = map (λ node. node.facts) (s.lasting.items ++ s.temporary.items); lasting = length s.lasting.items } };
+    ghost use Rattle.base_store.specs.KeptSteps.{AreTabled, listed};
+
+    ghost view = { λ s. listed s.parts.items s.temporary_parts.items s.lasting.items s.temporary.items };
+
+    ghost invariant = { λ s. AreTabled s.parts.items s.temporary_parts.items s.lasting.items s.temporary.items };
 }
 
 impl Nodes {
@@ -57,6 +50,8 @@ impl Nodes {
         Nodes {
             lasting: Vec::new(alloc),
             temporary: ArrayVec::new(),
+            parts: Vec::new(alloc),
+            temporary_parts: ArrayVec::new(),
         }
     }
 
@@ -75,12 +70,24 @@ impl Nodes {
     }
 
     /// How a node was made.
-    pub(super) fn made(&self, n: usize) -> &Made
+    pub(super) fn made(&self, n: usize) -> Made<'_>
         requires { n < length self.now.made }
-        ensures { slice_get self.now.made n ≡ Some result.now }
+        ensures { slice_get self.now.made n ≡ Some result }
     {
-        let node = node_among(self.lasting.as_slice(), self.temporary.as_slice(), n);
-        &node.made
+        let lasting = self.lasting.as_slice();
+        let parts = self.parts.as_slice();
+        if n < lasting.len() {
+            made_of(lasting, parts, 0, n)
+        } else {
+            let temporary = self.temporary.as_slice();
+            let from = parts.len();
+            made_of(
+                temporary,
+                self.temporary_parts.as_slice(),
+                from,
+                n - lasting.len(),
+            )
+        }
     }
 
     /// The facts of a node.
@@ -88,8 +95,14 @@ impl Nodes {
         requires { n < length self.now.made }
         ensures { slice_get self.now.facts n ≡ Some result.now }
     {
-        let node = node_among(self.lasting.as_slice(), self.temporary.as_slice(), n);
-        &node.facts
+        let lasting = self.lasting.len();
+        if n < lasting {
+            let node = &self.lasting.as_slice()[n];
+            &node.facts
+        } else {
+            let node = &self.temporary.as_slice()[n - lasting];
+            &node.facts
+        }
     }
 
     /// Adds a temporary node: a step over the node of a number. It takes no memory.
@@ -97,8 +110,10 @@ impl Nodes {
         requires room { length self.old.made < self.old.lasting + 32 }
         ensures { self.new ≡ with_temporary self.old (step_node step.now parent) facts }
     {
+        let from = self.parts.as_slice().len();
+        let kept = kept_step(step, &mut self.temporary_parts, from);
         self.temporary.push(Kept {
-            made: Made::Over(*step, parent),
+            made: KeptMade::Over(kept, parent),
             facts,
         });
     }
@@ -109,13 +124,14 @@ impl Nodes {
         ensures err { OnErr result (self.new ≡ self.old) }
     {
         let node = Kept {
-            made: Made::Base(b),
+            made: KeptMade::Base(b),
             facts,
         };
-        if self.lasting.extend_from_slice(&[node]).is_err() {
+        let Ok(()) = self.lasting.extend_from_slice(&[node]) else {
             return Err(NoMemory);
-        }
+        };
         self.temporary.clear();
+        self.temporary_parts.clear();
         Ok(())
     }
 
@@ -124,6 +140,7 @@ impl Nodes {
         ensures { self.new ≡ front self.old }
     {
         self.temporary.clear();
+        self.temporary_parts.clear();
     }
 
     /// Makes the temporary nodes lasting.
@@ -131,26 +148,32 @@ impl Nodes {
         ensures ok { OnOk result (self.new ≡ all_kept self.old) }
         ensures err { OnErr result (self.new ≡ self.old) }
     {
-        if self
-            .lasting
-            .extend_from_slice(self.temporary.as_slice())
-            .is_err()
-        {
+        let before = self.parts.len();
+        let Ok(()) = self
+            .parts
+            .extend_from_slice(self.temporary_parts.as_slice())
+        else {
             return Err(NoMemory);
-        }
+        };
+        let Ok(()) = self.lasting.extend_from_slice(self.temporary.as_slice()) else {
+            self.parts.truncate(before);
+            return Err(NoMemory);
+        };
         self.temporary.clear();
+        self.temporary_parts.clear();
         Ok(())
     }
 }
 
-/// The node of a number among the lasting ones, or behind them among the temporary ones.
-fn node_among<'a>(lasting: &'a [Kept], temporary: &'a [Kept], n: usize) -> &'a Kept
-    requires { n < length (lasting.now ++ temporary.now) }
-    ensures { slice_get (lasting.now ++ temporary.now) n ≡ Some result.now }
+/// How the node of a number was made, by a table whose first part has the number `from`.
+fn made_of<'a>(nodes: &'a [Kept], parts: &'a [Part], from: usize, n: usize) -> Made<'a>
+    requires within { n < length nodes.now }
+    requires stand { AllStand from parts.now nodes.now }
+    ensures { slice_get (map (made_in from parts.now) nodes.now) n ≡ Some result }
 {
-    if n < lasting.len() {
-        &lasting[n]
-    } else {
-        &temporary[n - lasting.len()]
+    let node = &nodes[n];
+    match &node.made {
+        KeptMade::Base(b) => Made::Base(*b),
+        KeptMade::Over(step, parent) => Made::Over(lent_step(step, parts, from), *parent),
     }
 }

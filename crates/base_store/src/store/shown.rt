@@ -41,9 +41,9 @@ fn found_in(nodes: &Nodes, n: usize, row: &Item) -> Option<Found>
             item: *row,
             seen: true,
         }),
-        Made::Over(step, parent) => match found_in(nodes, *parent, row) {
+        Made::Over(step, parent) => match found_in(nodes, parent, row) {
             None => None,
-            Some(found) => found_above(step, &found),
+            Some(found) => found_above(&step, &found),
         },
     }
 }
