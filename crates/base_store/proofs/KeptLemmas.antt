@@ -1,9 +1,9 @@
 -- Steps that are kept by a table of parts: what they are stays while the table grows, and where it is put behind another.
-use Rattle.std.proofs.Common.{◌≡◌, ℕ, ◌+◌, ◌-◌, ◌*◌, ◌<◌, ◌≤◌, List, [], ◌∷◌, ◌++◌, length, take, drop, refl, ap, sym, ◌∙◌, subst, get_or, arith, length-append, zero, suc, zero-add}
+use Rattle.std.proofs.Common.{◌≡◌, ℕ, ◌+◌, ◌-◌, ◌*◌, ◌<◌, ◌≤◌, List, [], ◌∷◌, ◌++◌, length, take, drop, refl, ap, sym, ◌∙◌, subst, get_or, arith, length-append, zero, suc}
 use Rattle.std.specs.Prelude.{map, slice_get, Some}
 use Rattle.std.proofs.lemmas.List.{append-nil, append_assoc, drop-append-le, length-drop, length-map, map-append, take-append-le}
 use Rattle.std.proofs.lemmas.Option.{same_Some, slice_get-get_or, slice_get_within}
-use Rattle.std.proofs.Math.Seq.{drop-append-add, take-append_seam}
+use Rattle.std.proofs.Math.Seq.{drop-append-add}
 use Rattle.fn_lang.specs.declared.parts.Part.{Part}
 use Rattle.fn_lang.specs.Flat.{IsFunc, IsPairPred, IsPred}
 use Rattle.fn_lang.specs.PartTrees.{func_of, pair_of, pred_of}
@@ -83,25 +83,6 @@ at_map f (first ∷ xs) (suc n) x is = at_map f xs n x is
 
 pub read_map : {X Y : Type 0} (f : X → Y) (xs : List X) (n : ℕ) (x : X) → n < length xs → x ≡ get_or xs n x → slice_get (map f xs) n ≡ Some (f x)
 read_map f xs n x lt is = at_map f xs n x (slice_get-get_or xs n x lt ∙ ap Some (sym is))
-
--- what stands in the first of two lists, and in the second
-pub first_list : {X : Type 0} (xs ys : List X) (n : ℕ) (x : X) → slice_get xs n ≡ Some x → slice_get (xs ++ ys) n ≡ Some x
-first_list [] ys n x is = absurd (omega (arith, slice_get_within [] n x is))
-first_list (first ∷ xs) ys zero x is = is
-first_list (first ∷ xs) ys (suc n) x is = first_list xs ys n x is
-
-pub second_list : {X : Type 0} (xs ys : List X) (n k : ℕ) (x : X) → n ≡ length xs + k → slice_get ys k ≡ Some x → slice_get (xs ++ ys) n ≡ Some x
-second_list {X} xs ys n k x e is = ap (λ (m : ℕ). slice_get (xs ++ ys) m) e ∙ shifted xs
-  where
-    shifted : (zs : List X) → slice_get (zs ++ ys) (length zs + k) ≡ Some x
-    shifted [] = ap (λ (m : ℕ). slice_get ys m) (zero-add k) ∙ is
-    shifted (z ∷ zs) =
-        let e : length (z ∷ zs) + k ≡ suc (length zs + k) = omega arith in
-        ap (λ (m : ℕ). slice_get (z ∷ (zs ++ ys)) m) e ∙ shifted zs
-
--- what lasts of all that is made
-pub front_of : {X Y : Type 0} (f : X → Y) (xs : List X) (ys : List Y) → take (length xs) (map f xs ++ ys) ≡ map f xs
-front_of f xs ys = ap (λ (k : ℕ). take k (map f xs ++ ys)) (sym (length-map xs f)) ∙ take-append_seam (map f xs) ys
 
 -- the tables with another temporary node
 pub tabled_push : (ps qs more : List Part) (lasting temporary : List Kept) (it : Kept) → AreTabled ps qs lasting temporary → length more ≤ 64 → MadeStands (length ps) (qs ++ more) it.made → AreTabled ps (qs ++ more) lasting (temporary ++ it ∷ [])
