@@ -138,8 +138,7 @@ module _ (nexts : Elem → List Elem) (a : Elem) (xs : List Elem) (h : IsGrown n
 
   pub breadth_first : IsBreadthFirst nexts a xs
   breadth_first = record {
-    exact = λ x. (h.reached x, all_found x);
-    distinct = h.distinct;
+    reached = record { exact = λ x. (h.reached x, all_found x); distinct = h.distinct };
     nearer = is_nearer;
     parents = by_parents;
     siblings = by_siblings;

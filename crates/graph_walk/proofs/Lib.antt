@@ -6,3 +6,5 @@ mod PathLemmas
 mod GrownLemmas
 mod GrownSteps
 mod BreadthLemmas
+mod VisitLemmas
+mod StackLemmas

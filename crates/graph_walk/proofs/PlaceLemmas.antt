@@ -1,6 +1,6 @@
 -- Places in a list, and what is in it.
 use Rattle.std.proofs.Common.{◌≡◌, ◌≢◌, ◌⊎◌, inl, inr, ℕ, ◌+◌, ◌<◌, ◌≤◌, zero, suc, Bool, true, false, cond, ◌||◌, List, [], ◌∷◌, ◌++◌, length, get_or, refl, ap, sym, ◌∙◌, subst, arith, length-append}
-use Rattle.std.specs.List.{list_any}
+use Rattle.std.proofs.lemmas.List.Folds.{list_any-append}
 use Rattle.elem.specs.declared.elements.Elem.{Elem}
 use Rattle.elem.specs.Elements.{same}
 use Rattle.elem.specs.ElementLaws.{same_equiv, same-Decides}
@@ -68,3 +68,25 @@ pub at_default : (xs : List Elem) (i : ℕ) (d e : Elem) → i < length xs → g
 at_default [] i d e h = absurd (omega arith)
 at_default (x ∷ xs) zero d e h = refl
 at_default (x ∷ xs) (suc i) d e h = at_default xs i d e (omega arith)
+
+-- a list with one more, last
+pub in_front : (x y : Elem) (xs : List Elem) → is_in x xs ≡ true → is_in x (xs ++ y ∷ []) ≡ true
+in_front x y xs h = list_any-append (same x) xs (y ∷ []) ∙ ap (λ b. b || (same x y || false)) h
+
+pub in_last : (x : Elem) (xs : List Elem) → is_in x (xs ++ x ∷ []) ≡ true
+in_last x xs = list_any-append (same x) xs (x ∷ []) ∙ ap (λ b. is_in x xs || (b || false)) (same_equiv.refl x) ∙ or_yes (is_in x xs)
+  where
+    or_yes : (b : Bool) → (b || true) ≡ true
+    or_yes true = refl
+    or_yes false = refl
+
+pub front_or_last : (x y : Elem) (xs : List Elem) → is_in x (xs ++ y ∷ []) ≡ true → (is_in x xs ≡ true) ⊎ (x ≡ y)
+front_or_last x y xs h = by_case (is_in x xs) (same x y) refl refl (sym (list_any-append (same x) xs (y ∷ [])) ∙ h)
+  where
+    by_case : (b s : Bool) → is_in x xs ≡ b → same x y ≡ s → (b || (s || false)) ≡ true → (is_in x xs ≡ true) ⊎ (x ≡ y)
+    by_case true s p q r = inl p
+    by_case false true p q r = inr (same-is x y q)
+    by_case false false p q r = absurd (cc)
+
+pub in_tail : (x y : Elem) (ys : List Elem) → is_in x ys ≡ true → is_in x (y ∷ ys) ≡ true
+in_tail x y ys h = elim (same x y) as (λ b. (b || is_in x ys) ≡ true) [ true ↦ refl | false ↦ h ]

@@ -6,26 +6,8 @@ use Rattle.elem.specs.declared.elements.Elem.{Elem}
 use Rattle.elem.specs.Elements.{same}
 use Rattle.elem.specs.ElementLaws.{same_equiv}
 use Rattle.graph_walk.specs.Graphs.{is_in}
-use Rattle.graph_walk.specs.Places.{after}
-use Rattle.graph_walk.proofs.PlaceLemmas.{same-is}
-
--- the list from an element on
-abbrev pub from_on : Elem → List Elem → List Elem
-from_on x [] = []
-from_on x (y ∷ ys) = cond (same x y) (y ∷ ys) (from_on x ys)
-
--- what is left where an element is the next one
-abbrev pub left_at : Option Elem → List Elem → List Elem
-left_at None xs = []
-left_at (Some x) xs = from_on x xs
-
--- the next one is in the list
-abbrev pub IsAmong : Option Elem → List Elem → Type 0
-IsAmong None xs = Unit {0}
-IsAmong (Some x) xs = is_in x xs ≡ true
-
-in_tail : (x y : Elem) (ys : List Elem) → is_in x ys ≡ true → is_in x (y ∷ ys) ≡ true
-in_tail x y ys h = elim (same x y) as (λ b. (b || is_in x ys) ≡ true) [ true ↦ refl | false ↦ h ]
+use Rattle.graph_walk.specs.Places.{after, from_on, left_at, IsAmong}
+use Rattle.graph_walk.proofs.PlaceLemmas.{same-is, in_tail}
 
 among_tail : (o : Option Elem) (y : Elem) (ys : List Elem) → IsAmong o ys → IsAmong o (y ∷ ys)
 among_tail None y ys h = tt

@@ -1,7 +1,8 @@
 -- Paths, each as the list of its nodes behind the first.
-use Rattle.std.specs.Prelude.{◌≡◌, ℕ, ◌+◌, ◌≤◌, true, List, [], ◌∷◌, length}
-use Rattle.std.specs.List.{sum_by}
+use Rattle.std.specs.Prelude.{◌≡◌, ◌↔◌, ℕ, ◌+◌, ◌≤◌, true, List, [], ◌∷◌, length}
+use Rattle.std.specs.List.{sum_by, IsDistinct}
 use Rattle.elem.specs.declared.elements.Elem.{Elem}
+use Rattle.elem.specs.Elements.{same}
 use Rattle.graph_walk.specs.Graphs.{is_in}
 
 module _ (nexts : Elem → List Elem) where
@@ -13,6 +14,11 @@ module _ (nexts : Elem → List Elem) where
   -- some path leads from a to b
   abbrev pub IsReached : Elem → Elem → Type 0
   IsReached a b = (path : List Elem) × Leads a path b
+
+  -- the list has exactly the nodes to which a path from a leads, each once
+  pub record AreReached (a : Elem) (found : List Elem) : Type 0 where
+    pub exact : (x : Elem) → (is_in x found ≡ true) ↔ IsReached a x
+    pub distinct : IsDistinct same found
 
   -- a shortest path from a to b has k edges
   pub record IsDistance (a b : Elem) (k : ℕ) : Type 0 where

@@ -3,10 +3,14 @@
 #![tactic(auto)]
 
 mod breadth_walk;
+mod depth_stack;
+mod depth_walk;
 mod faults;
 mod found;
+mod visits;
 mod walkable;
 
 pub use breadth_walk::breadth_first;
+pub use depth_walk::{depth_post, depth_pre};
 pub use faults::WalkFault;
 pub use walkable::Walkable;

@@ -5,7 +5,8 @@ use Rattle.elem.specs.Elements.{same}
 use Rattle.graph_walk.specs.Found.{with_new, with_all}
 use Rattle.graph_walk.specs.Graphs.{is_in, nexts}
 use Rattle.graph_walk.proofs.NextsLemmas.{nexts_distinct}
-use Rattle.graph_walk.proofs.TurnLemmas.{left_at, IsAmong, left-first, left-after, first_among, after_among}
+use Rattle.graph_walk.specs.Places.{left_at, IsAmong}
+use Rattle.graph_walk.proofs.TurnLemmas.{left-first, left-after, first_among, after_among}
 use Rattle.graph_walk.proofs.breadth_walk.find_nexts.Goals as goal
 
 pub loop-next-init : goal.loop-next-init

@@ -1,7 +1,7 @@
 use Rattle.std.proofs.Common.{◌≡◌, ◌+◌, length}
 use Rattle.graph_walk.specs.Found.{with_all}
 use Rattle.graph_walk.specs.Graphs.{nexts}
-use Rattle.graph_walk.proofs.TurnLemmas.{left_at, IsAmong}
+use Rattle.graph_walk.specs.Places.{left_at, IsAmong}
 use Rattle.graph_walk.proofs.breadth_walk.find_nexts.Given as goal
 
 abbrev pub invariant-loop-next : goal.invariant-loop-next
