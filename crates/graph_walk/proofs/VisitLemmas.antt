@@ -1,13 +1,14 @@
 -- What a visit of nodes enters and leaves.
-use Rattle.std.proofs.Common.{◌≡◌, ◌⊎◌, inl, inr, Bool, true, false, ◌||◌, List, [], ◌∷◌, ◌++◌, refl, ap, sym, ◌∙◌, subst}
+use Rattle.std.proofs.Common.{◌≡◌, ◌+◌, length, arith, ◌⊎◌, inl, inr, Bool, true, false, ◌||◌, List, [], ◌∷◌, ◌++◌, refl, ap, sym, ◌∙◌, subst}
 use Rattle.std.specs.List.{IsDistinct}
 use Rattle.std.proofs.lemmas.Bool.{cases_Bool, both_ways}
+use Rattle.std.proofs.lemmas.List.Sums.{sum_by_push}
 use Rattle.std.proofs.lemmas.Map.Keys.{IsDistinct-push}
 use Rattle.elem.specs.declared.elements.Elem.{Elem}
 use Rattle.elem.specs.Elements.{same}
 use Rattle.elem.specs.ElementLaws.{same_equiv}
 use Rattle.graph_walk.specs.Graphs.{is_in}
-use Rattle.graph_walk.specs.Paths.{IsReached, AreReached}
+use Rattle.graph_walk.specs.Paths.{IsReached, AreReached, calls}
 use Rattle.graph_walk.specs.DepthFirst.{Visits, ended, passed, visited}
 use Rattle.graph_walk.proofs.PlaceLemmas.{same-is, in_tail, in_front, in_last, front_or_last}
 use Rattle.graph_walk.proofs.PathLemmas.{reached_on, along}
@@ -117,6 +118,17 @@ module _ (nexts : Elem → List Elem) where
         inr o ↦ o
         | inl i ↦ elim (left_from v y i) [ inl p ↦ absurd (both_ways _ j (h y p)) | inr n ↦ absurd (both_ways _ n.1 (in_last y e)) ]
       ]
+
+  -- what is entered is what is left, so both take as many calls
+  pub leaves_calls : {xs e l f m : List Elem} → Visits nexts xs e l f m → calls nexts m + calls nexts e ≡ calls nexts l + calls nexts f
+  leaves_calls (ended {entered = e} {left = l}) = refl
+  leaves_calls (passed j v) = leaves_calls v
+  leaves_calls (visited {x = y} {entered = e} {left = l} {entered' = f} {left' = k} {entered'' = f'} {left'' = m} j v w) =
+      let inner : calls nexts k + calls nexts (e ++ y ∷ []) ≡ calls nexts l + calls nexts f = leaves_calls v in
+      let later : calls nexts m + calls nexts f ≡ calls nexts (k ++ y ∷ []) + calls nexts f' = leaves_calls w in
+      let one : calls nexts (e ++ y ∷ []) ≡ calls nexts e + (1 + length (nexts y)) = sum_by_push (λ x. 1 + length (nexts x)) e y in
+      let other : calls nexts (k ++ y ∷ []) ≡ calls nexts k + (1 + length (nexts y)) = sum_by_push (λ x. 1 + length (nexts x)) k y in
+      omega arith
 
   module _ (a : Elem) (f m : List Elem) (v : Visits nexts (a ∷ []) [] [] f m) where
     nothing : (x : Elem) → is_in x [] ≡ true → ⊥

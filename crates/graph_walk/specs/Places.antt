@@ -32,3 +32,8 @@ left_at (Some x) xs = from_on x xs
 abbrev pub IsAmong : Option Elem → List Elem → Type 0
 IsAmong None xs = Unit {0}
 IsAmong (Some x) xs = is_in x xs ≡ true
+
+-- the element behind an element, or the first
+abbrev pub next_behind : Option Elem → List Elem → Option Elem
+next_behind None xs = slice_get xs 0
+next_behind (Some x) xs = after x xs

@@ -45,6 +45,7 @@ pub fn depth_post<W: Walkable, L: Ledger>(
     ensures reached { IfOk result (λ found. AreReached (nexts (W.graph g.now)) a found.items) }
     ensures no_node { is_in a (W.graph g.now).nodes ≡ false → result ≡ Err NoNode }
     ensures refused { IfErr result (RefusesWalk (is_in a (W.graph g.now).nodes)) }
+    ensures steps { IfOk result (λ found. steps.new ≡ steps.old + 1 + calls (nexts (W.graph g.now)) found.items) }
 {
     if !g.has(a, steps) {
         return Err(WalkFault::NoNode);

@@ -7,6 +7,10 @@ mod depth_stack;
 mod depth_walk;
 mod faults;
 mod found;
+#[cfg(test)]
+mod tests;
+#[cfg(test)]
+mod two_lists;
 mod visits;
 mod walkable;
 
