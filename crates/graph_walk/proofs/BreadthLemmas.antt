@@ -1,11 +1,9 @@
 -- Where the next nodes of all found nodes have been found, the list is breadth first.
-use Rattle.std.proofs.Common.{◌≡◌, ◌⊎◌, ◌↔◌, inl, inr, ℕ, ◌+◌, ◌<◌, ◌≤◌, zero, suc, Bool, true, false, cond, ◌||◌, List, [], ◌∷◌, ◌++◌, length, get_or, refl, ap, sym, ◌∙◌, subst, arith}
-use Rattle.std.specs.List.{IsDistinct}
+use Rattle.std.proofs.Common.{◌≡◌, ◌⊎◌, inl, inr, ℕ, ◌+◌, ◌<◌, ◌≤◌, suc, true, List, [], length, get_or, ap, sym, ◌∙◌, subst, arith}
 use Rattle.std.proofs.lemmas.Bool.{cases_lt, cases_eq}
 use Rattle.elem.specs.declared.elements.Elem.{Elem}
-use Rattle.elem.specs.Elements.{same}
 use Rattle.graph_walk.specs.Graphs.{is_in}
-use Rattle.graph_walk.specs.Places.{first_place, place}
+use Rattle.graph_walk.specs.Places.{place}
 use Rattle.graph_walk.specs.Paths.{Leads, IsReached, IsDistance}
 use Rattle.graph_walk.specs.BreadthFirst.{IsParent, IsBreadthFirst}
 use Rattle.graph_walk.proofs.PlaceLemmas.{first_place-at, first_place-passes, is_in-place, at-place, at-is_in, place-at, one_place}
@@ -50,9 +48,10 @@ module _ (nexts : Elem → List Elem) (a : Elem) (xs : List Elem) (h : IsGrown n
     where
       finders : (z : Elem) → is_in z xs ≡ true → place z xs ≤ place y xs → 0 < place z xs → finder nexts z xs ≤ finder nexts y xs
       finders z i m l = elim (cases_eq (place z xs) (place y xs)) [
-        inl e ↦ let s : z ≡ y = one_place z y xs i (next_found x y w.0 k) e in subst (λ u. finder nexts z xs ≤ finder nexts u xs) s (omega arith)
+        | inl e ↦ let s : z ≡ y = one_place z y xs i (next_found x y w.0 k) e in subst (λ u. finder nexts z xs ≤ finder nexts u xs) s (omega arith)
         | inr ne ↦ h.ordered z y i (next_found x y w.0 k) l (omega arith)
       ]
+
       by_case : (z : Elem) → is_in z xs ≡ true → place z xs ≤ place y xs → (0 < place z xs) ⊎ (place z xs ≤ 0) → IsWithin nexts a z (suc n)
       by_case z i m (inl l) =
           let f : finder nexts z xs ≤ finder nexts y xs = finders z i m l in
@@ -85,7 +84,7 @@ module _ (nexts : Elem → List Elem) (a : Elem) (xs : List Elem) (h : IsGrown n
 
     child_behind : 0 < place x xs
     child_behind = elim (cases_lt 0 (place x xs)) [
-      inl l ↦ l
+      | inl l ↦ l
       | inr l ↦ let none : suc parent.distance ≤ 0 = parent.farther.shortest [] (is_start x child_in (omega arith)) in absurd (omega arith)
     ]
 
@@ -96,10 +95,10 @@ module _ (nexts : Elem → List Elem) (a : Elem) (xs : List Elem) (h : IsGrown n
         let early : place (finder_of x) xs ≤ finder nexts x xs = finder_place x child_in child_behind in
         let w : IsWithin nexts a (finder_of x) (length parent.nearer.path) = (ahead p parent.nearer.path parent.nearer.leads).1 (finder_of x) (finder_in x child_in child_behind) (omega arith) in
         let far : (path : List Elem) → Leads nexts a path (finder_of x) → parent.distance ≤ length path = λ path l.
-            let v : IsWithin nexts a x (suc (length path)) = within_on nexts a (finder_of x) x (length path) (path, l, omega arith) (is_found_by x child_in child_behind) in
-            let s : suc parent.distance ≤ length v.0 = parent.farther.shortest v.0 v.1 in
-            let t : length v.0 ≤ suc (length path) = v.2 in
-            omega arith in
+        let v : IsWithin nexts a x (suc (length path)) = within_on nexts a (finder_of x) x (length path) (path, l, omega arith) (is_found_by x child_in child_behind) in
+        let s : suc parent.distance ≤ length v.0 = parent.farther.shortest v.0 v.1 in
+        let t : length v.0 ≤ suc (length path) = v.2 in
+        omega arith in
         let s : parent.distance ≤ length w.0 = far w.0 w.1 in
         let t : length w.0 ≤ length parent.nearer.path = w.2 in
         let u : length parent.nearer.path ≡ parent.distance = parent.nearer.edges in
@@ -117,9 +116,9 @@ module _ (nexts : Elem → List Elem) (a : Elem) (xs : List Elem) (h : IsGrown n
       let e : finder nexts x xs ≡ place p xs = parent-finder p x s in
       let f : finder nexts y xs ≡ place q xs = parent-finder q y t in
       elim (cases_lt (place x xs) (place y xs)) [
-        inl m ↦ m
+        | inl m ↦ m
         | inr m ↦ elim (cases_eq (place y xs) (place x xs)) [
-          inl z ↦ let one : y ≡ x = one_place y x xs (child_in q y t) (child_in p x s) z in let both : finder nexts y xs ≡ finder nexts x xs = ap (λ u. finder nexts u xs) one in absurd (omega arith)
+          | inl z ↦ let one : y ≡ x = one_place y x xs (child_in q y t) (child_in p x s) z in let both : finder nexts y xs ≡ finder nexts x xs = ap (λ u. finder nexts u xs) one in absurd (omega arith)
           | inr z ↦ let o : finder nexts y xs ≤ finder nexts x xs = h.ordered y x (child_in q y t) (child_in p x s) (child_behind q y t) (omega arith) in absurd (omega arith)
         ]
       ]
@@ -129,9 +128,9 @@ module _ (nexts : Elem → List Elem) (a : Elem) (xs : List Elem) (h : IsGrown n
       let e : finder nexts x xs ≡ place p xs = parent-finder p x s in
       let f : finder nexts y xs ≡ place p xs = parent-finder p y t in
       elim (cases_lt (place x xs) (place y xs)) [
-        inl m ↦ m
+        | inl m ↦ m
         | inr m ↦ elim (cases_eq (place y xs) (place x xs)) [
-          inl z ↦ let one : y ≡ x = one_place y x xs (child_in p y t) (child_in p x s) z in let both : place y (nexts p) ≡ place x (nexts p) = ap (λ u. place u (nexts p)) one in absurd (omega arith)
+          | inl z ↦ let one : y ≡ x = one_place y x xs (child_in p y t) (child_in p x s) z in let both : place y (nexts p) ≡ place x (nexts p) = ap (λ u. place u (nexts p)) one in absurd (omega arith)
           | inr z ↦ let o : place y (nexts p) < place x (nexts p) = h.beside y x p (child_in p y t) (child_in p x s) (parent_in p x s) (child_behind p y t) (omega arith) f e in absurd (omega arith)
         ]
       ]

@@ -1,15 +1,15 @@
 -- Lists that grow by what is new.
-use Rattle.std.proofs.Common.{◌≡◌, ◌⊎◌, inl, inr, ℕ, ◌+◌, ◌<◌, ◌≤◌, zero, suc, Bool, true, false, cond, ◌||◌, List, [], ◌∷◌, ◌++◌, length, get_or, refl, ap, sym, ◌∙◌, subst, arith, append_assoc, length-append}
-use Rattle.std.specs.List.{list_any, IsDistinct}
+use Rattle.std.proofs.Common.{◌≡◌, inl, inr, ◌+◌, ◌<◌, ◌≤◌, suc, Bool, true, false, cond, ◌||◌, List, [], ◌∷◌, ◌++◌, length, refl, ap, sym, ◌∙◌, arith, append_assoc, length-append}
+use Rattle.std.specs.List.{IsDistinct}
 use Rattle.std.proofs.lemmas.Bool.{cases_lt, both_ways}
 use Rattle.std.proofs.lemmas.List.{append-nil}
 use Rattle.std.proofs.lemmas.List.Folds.{list_any-append}
 use Rattle.std.proofs.lemmas.Map.Keys.{IsDistinct-push}
 use Rattle.elem.specs.declared.elements.Elem.{Elem}
 use Rattle.elem.specs.Elements.{same}
-use Rattle.elem.specs.ElementLaws.{same_equiv, same-Decides}
+use Rattle.elem.specs.ElementLaws.{same_equiv}
 use Rattle.graph_walk.specs.Graphs.{is_in}
-use Rattle.graph_walk.specs.Places.{first_place, place}
+use Rattle.graph_walk.specs.Places.{place}
 use Rattle.graph_walk.specs.Found.{with_new, with_all}
 use Rattle.graph_walk.proofs.PlaceLemmas.{first_place-le, first_place-left, first_place-right, is_in-place, place-is_in, same-is}
 
@@ -22,6 +22,7 @@ has_more x q xs b e = by_case (same x q) (is_in q xs) ∙ sym (list_any-append (
     by_both true false = refl
     by_both false true = refl
     by_both false false = refl
+
     by_case : (s i : Bool) → cond s true b ≡ (is_in q xs || (s || false))
     by_case s i = ap (cond s true) e ∙ by_both s (is_in q xs)
 
@@ -38,9 +39,11 @@ is_in-new x y xs = by_case (is_in y xs) refl
         or_no : (b : Bool) → b ≡ (b || false)
         or_no true = refl
         or_no false = refl
+
     or_no : (b : Bool) → (b || false) ≡ b
     or_no true = refl
     or_no false = refl
+
     by_case : (b : Bool) → is_in y xs ≡ b → is_in x (cond b xs (xs ++ y ∷ [])) ≡ (is_in x xs || same x y)
     by_case true h = by_there (same x y) refl h
     by_case false h = list_any-append (same x) xs (y ∷ []) ∙ ap (λ b. is_in x xs || b) (or_no (same x y))
@@ -93,6 +96,7 @@ new_order x z (y ∷ ys) xs p q l = by_case (is_in y xs) (same x y) (same z y) r
   where
     still : (w : Elem) → is_in w xs ≡ false → same w y ≡ false → is_in w (xs ++ y ∷ []) ≡ false
     still w n e = list_any-append (same w) xs (y ∷ []) ∙ ap (λ b. b || (same w y || false)) n ∙ ap (λ b. b || false) e
+
     last : (w : Elem) → is_in w xs ≡ false → same w y ≡ true → place w (with_all ys (xs ++ y ∷ [])) ≡ length xs
     last w n e =
         let there : is_in w (xs ++ y ∷ []) ≡ true = list_any-append (same w) xs (y ∷ []) ∙ ap (λ b. b || (same w y || false)) n ∙ ap (λ b. b || false) e in
@@ -100,6 +104,7 @@ new_order x z (y ∷ ys) xs p q l = by_case (is_in y xs) (same x y) (same z y) r
         let head : place w (y ∷ []) ≡ 0 = ap (λ b. cond b 0 (suc 0)) e in
         let old : place w (with_all ys (xs ++ y ∷ [])) ≡ place w (xs ++ y ∷ []) = place-old w ys (xs ++ y ∷ []) there in
         omega arith
+
     by_case : (b s t : Bool) → is_in y xs ≡ b → same x y ≡ s → same z y ≡ t → (place x (with_all ys xs) < place z (with_all ys xs) → place x ys < place z ys) → (is_in x (xs ++ y ∷ []) ≡ false → is_in z (xs ++ y ∷ []) ≡ false → place x (with_all ys (xs ++ y ∷ [])) < place z (with_all ys (xs ++ y ∷ [])) → place x ys < place z ys) → place x (with_all ys (cond b xs (xs ++ y ∷ []))) < place z (with_all ys (cond b xs (xs ++ y ∷ []))) → cond s 0 (suc (place x ys)) < cond t 0 (suc (place z ys))
     by_case true true t h e f old new l = absurd (both_ways _ p (ap (λ w. is_in w xs) (same-is x y e) ∙ h))
     by_case true false true h e f old new l = absurd (both_ways _ q (ap (λ w. is_in w xs) (same-is z y f) ∙ h))

@@ -1,18 +1,17 @@
 -- Finding the next nodes of one node more.
-use Rattle.std.proofs.Common.{◌≡◌, ◌⊎◌, inl, inr, ℕ, ◌+◌, ◌<◌, ◌≤◌, zero, suc, Bool, true, false, cond, ◌||◌, List, [], ◌∷◌, ◌++◌, length, get_or, refl, ap, sym, ◌∙◌, subst, arith, length-append, take}
-use Rattle.std.specs.List.{IsDistinct, AllByRecursion, sum_by}
-use Rattle.std.proofs.lemmas.Bool.{cases_lt, cases_Bool, or_cases, both_ways}
+use Rattle.std.proofs.Common.{◌≡◌, ◌⊎◌, inl, inr, ℕ, ◌+◌, ◌<◌, ◌≤◌, Bool, true, false, cond, ◌||◌, List, [], ◌∷◌, ◌++◌, length, get_or, refl, ap, sym, ◌∙◌, subst, arith, length-append, take}
+use Rattle.std.specs.List.{IsDistinct, sum_by}
+use Rattle.std.proofs.lemmas.Bool.{cases_lt, cases_Bool, both_ways}
 use Rattle.std.proofs.lemmas.List.{get_or_append_left, take-append-le}
 use Rattle.std.proofs.lemmas.List.Sums.{sum_by_more}
-
 use Rattle.elem.specs.declared.elements.Elem.{Elem}
 use Rattle.elem.specs.Elements.{same}
 use Rattle.elem.specs.ElementLaws.{same_equiv}
 use Rattle.graph_walk.specs.Graphs.{is_in}
-use Rattle.graph_walk.specs.Places.{first_place, place}
+use Rattle.graph_walk.specs.Places.{place}
 use Rattle.graph_walk.specs.Paths.{IsReached, calls}
 use Rattle.graph_walk.specs.Found.{with_all}
-use Rattle.graph_walk.proofs.PlaceLemmas.{first_place-at, first_place-passes, first_place-left, is_in-place, at-place, at-is_in, same-is}
+use Rattle.graph_walk.proofs.PlaceLemmas.{first_place-at, first_place-passes, first_place-left, is_in-place, at-place, at-is_in}
 use Rattle.graph_walk.proofs.FoundLemmas.{is_in-all, all_distinct, front_stays, place-old, place-new, new_order}
 use Rattle.graph_walk.proofs.PathLemmas.{reached_on}
 use Rattle.graph_walk.proofs.GrownLemmas.{IsGrown, finder}
@@ -77,7 +76,7 @@ module _ (nexts : Elem → List Elem) (a : Elem) where
         let long = longer in
         let late : finder nexts x more ≤ n = first_place-at (λ p. is_in x (nexts p)) more n a (omega arith) (ap (λ z. is_in x (nexts z)) (at_old n l) ∙ comes x m o) in
         elim (cases_lt (finder nexts x more) n) [
-          inl k ↦ absurd (both_ways _ o (h.closed (finder nexts x more) x k (ap (λ z. is_in x (nexts z)) (sym (at_old (finder nexts x more) (omega arith))) ∙ first_place-passes (λ p. is_in x (nexts p)) more a (omega arith))))
+          | inl k ↦ absurd (both_ways _ o (h.closed (finder nexts x more) x k (ap (λ z. is_in x (nexts z)) (sym (at_old (finder nexts x more) (omega arith))) ∙ first_place-passes (λ p. is_in x (nexts p)) more a (omega arith))))
           | inr k ↦ omega arith
         ]
 
@@ -86,19 +85,19 @@ module _ (nexts : Elem → List Elem) (a : Elem) where
 
     more_found : (x : Elem) → is_in x more ≡ true → 0 < place x more → finder nexts x more < n + 1
     more_found x m k = elim (cases_Bool (is_in x xs)) [
-      inl i ↦ let e = old_finder x i (old_rank x i k) in let f = h.found x i (old_rank x i k) in omega arith
+      | inl i ↦ let e = old_finder x i (old_rank x i k) in let f = h.found x i (old_rank x i k) in omega arith
       | inr o ↦ let e = new_finder x o m in omega arith
     ]
 
     more_closed : (i : ℕ) (x : Elem) → i < n + 1 → is_in x (nexts (get_or more i a)) ≡ true → is_in x more ≡ true
     more_closed i x k m = elim (cases_lt i n) [
-      inl j ↦ stays x (h.closed i x j (ap (λ z. is_in x (nexts z)) (sym (at_old i (omega arith))) ∙ m))
+      | inl j ↦ stays x (h.closed i x j (ap (λ z. is_in x (nexts z)) (sym (at_old i (omega arith))) ∙ m))
       | inr j ↦ let e : i ≡ n = omega arith in from_next x (ap (λ z. is_in x (nexts z)) (sym (ap (λ j. get_or more j a) e ∙ at_old n l)) ∙ m)
     ]
 
     more_reached : (x : Elem) → is_in x more ≡ true → IsReached nexts a x
     more_reached x m = elim (cases_Bool (is_in x xs)) [
-      inl i ↦ h.reached x i
+      | inl i ↦ h.reached x i
       | inr o ↦ reached_on nexts a node x (h.reached node (at-is_in xs n a l)) (comes x m o)
     ]
 
@@ -133,6 +132,7 @@ module _ (nexts : Elem → List Elem) (a : Elem) where
       where
         found_by : place p more < length xs → get_or xs (place p more) a ≡ p
         found_by f = sym (at_old (place p more) f) ∙ at-place p more a r
+
         by_cases : (is_in x xs ≡ true) ⊎ (is_in x xs ≡ false) → (is_in y xs ≡ true) ⊎ (is_in y xs ≡ false) → place x (nexts p) < place y (nexts p)
         by_cases (inl u) (inl v) =
             let d : place x more ≡ place x xs = old_place x u in

@@ -8,3 +8,5 @@ mod GrownSteps
 mod BreadthLemmas
 mod VisitLemmas
 mod StackLemmas
+mod ReachLemmas
+mod ClosureLemmas

@@ -1,5 +1,5 @@
 -- The next nodes of a node are distinct nodes.
-use Rattle.std.proofs.Common.{◌≡◌, ◌≤◌, length, ◌⊎◌, inl, inr, Bool, true, false, not, cond, ◌||◌, ◌&&◌, List, [], ◌∷◌, Option, Some, None, MatchOption, refl, ap, sym, ◌∙◌, subst}
+use Rattle.std.proofs.Common.{◌≡◌, ◌≤◌, length, ◌⊎◌, inl, inr, Bool, true, false, not, cond, ◌||◌, ◌&&◌, List, [], ◌∷◌, Option, Some, None, refl, ap, sym, ◌∙◌, subst}
 use Rattle.std.specs.List.{IsDistinct, AllByRecursion, filter_map, cons_option}
 use Rattle.std.proofs.lemmas.Bool.{both_ways}
 use Rattle.elem.specs.declared.elements.Elem.{Elem}
@@ -52,6 +52,7 @@ nexts_apart d a e y h (f ∷ es) all = by_case (end_from d a f) refl (nexts_apar
     by_same : (z : Elem) → end_from d a f ≡ Some z → (b : Bool) → same y z ≡ b → same y z ≡ false
     by_same z p true q = absurd (both_ways _ all.0 (one_link d a e f y h (subst (GoesFrom d a f) (sym (same-is y z q)) (goes_from d a f z p))))
     by_same z p false q = q
+
     by_case : (o : Option Elem) → end_from d a f ≡ o → AllByRecursion (λ z. same y z ≡ false) (filter_map (end_from d a) es) → AllByRecursion (λ z. same y z ≡ false) (cons_option o (filter_map (end_from d a) es))
     by_case None p rest = rest
     by_case (Some z) p rest = (by_same z p (same y z) refl, rest)
@@ -72,9 +73,11 @@ nodes_along d nodes a (e ∷ es) h x i = by_case (end_from d a e) refl i (nodes_
     end_is : (y : Elem) → GoesFrom d a e y → is_in y nodes ≡ true
     end_is y (inl k) = ap (λ z. is_in z nodes) k.1 ∙ h.0.1
     end_is y (inr k) = ap (λ z. is_in z nodes) k.2 ∙ h.0.0
+
     by_same : (y : Elem) → end_from d a e ≡ Some y → (b : Bool) → same x y ≡ b → (b || is_in x (filter_map (end_from d a) es)) ≡ true → (is_in x (filter_map (end_from d a) es) ≡ true → is_in x nodes ≡ true) → is_in x nodes ≡ true
     by_same y p true q j rest = ap (λ z. is_in z nodes) (same-is x y q) ∙ end_is y (goes_from d a e y p)
     by_same y p false q j rest = rest j
+
     by_case : (o : Option Elem) → end_from d a e ≡ o → is_in x (cons_option o (filter_map (end_from d a) es)) ≡ true → (is_in x (filter_map (end_from d a) es) ≡ true → is_in x nodes ≡ true) → is_in x nodes ≡ true
     by_case None p j rest = rest j
     by_case (Some y) p j rest = by_same y p (same x y) refl j rest

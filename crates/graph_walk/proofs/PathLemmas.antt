@@ -1,5 +1,5 @@
 -- Paths that are made longer, and what they keep.
-use Rattle.std.proofs.Common.{◌≡◌, ℕ, ◌+◌, ◌≤◌, suc, true, List, [], ◌∷◌, ◌++◌, length, refl, ap, sym, ◌∙◌, subst, arith, length-append}
+use Rattle.std.proofs.Common.{◌≡◌, ℕ, ◌+◌, ◌≤◌, suc, true, List, [], ◌∷◌, ◌++◌, length, refl, sym, subst, arith, length-append}
 use Rattle.elem.specs.declared.elements.Elem.{Elem}
 use Rattle.graph_walk.specs.Graphs.{is_in}
 use Rattle.graph_walk.specs.Paths.{Leads, IsReached}

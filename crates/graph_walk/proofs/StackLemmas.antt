@@ -1,6 +1,5 @@
 -- One step of a visit, by its stack.
 use Rattle.std.proofs.Common.{◌≡◌, ◌⊎◌, inl, inr, ℕ, ◌+◌, ◌<◌, ◌≤◌, suc, Bool, true, false, cond, ◌||◌, List, [], ◌∷◌, ◌++◌, Option, Some, None, slice_get, length, reverse, refl, ap, sym, ◌∙◌, subst, arith}
-use Rattle.std.specs.List.{AllByRecursion, sum_by}
 use Rattle.std.proofs.lemmas.Bool.{cases_Bool, both_ways}
 use Rattle.std.proofs.lemmas.List.{reverse-append}
 use Rattle.std.proofs.lemmas.List.Sums.{sum_by_push}
@@ -13,7 +12,7 @@ use Rattle.graph_walk.specs.Paths.{calls}
 use Rattle.graph_walk.specs.Found.{with_new}
 use Rattle.graph_walk.specs.DepthFirst.{Visits, ended, passed, visited}
 use Rattle.graph_walk.specs.Stacks.{begun, to_visit, Finishes, AreFrames, pending, unentered}
-use Rattle.graph_walk.proofs.PlaceLemmas.{same-is, in_front, in_last, front_or_last}
+use Rattle.graph_walk.proofs.PlaceLemmas.{same-is, in_front, in_last}
 use Rattle.graph_walk.proofs.TurnLemmas.{left-first, left-after, first_among}
 use Rattle.graph_walk.proofs.NextsLemmas.{nexts_distinct}
 
@@ -80,6 +79,7 @@ module _ (nexts : Elem → List Elem) where
       where
         rest : List Elem
         rest = left_at o (nexts f.node)
+
         by_case : (b : Bool) → is_in x e ≡ b → Finishes nexts (stepped b) (cond b e (e ++ x ∷ [])) l e' l' → Finishes nexts (f ∷ fs) e l e' l'
         by_case true i h = (h.0, h.1, subst (λ xs. Visits nexts xs e l h.0 h.1) (sym turned) (passed i h.2), h.3)
         by_case false i h =
@@ -97,6 +97,7 @@ module _ (nexts : Elem → List Elem) where
       where
         lengths : length (to_visit nexts f) ≡ suc (length (left_at o (nexts f.node)))
         lengths = ap length turned
+
         by_case : (b : Bool) → after ≡ before + 1 + cond b 0 1 → after + pending nexts (stepped b) + calls nexts e ≡ before + pending nexts (f ∷ fs) + calls nexts (cond b e (e ++ x ∷ []))
         by_case true s = let t = lengths in omega arith
         by_case false s =
@@ -111,6 +112,7 @@ module _ (nexts : Elem → List Elem) where
       where
         lengths : length (to_visit nexts f) ≡ suc (length (left_at o (nexts f.node)))
         lengths = ap length turned
+
         by_case : (b : Bool) → is_in x e ≡ b → unentered nexts nodes (cond b e (e ++ x ∷ [])) + pending nexts (stepped b) + length (stepped b) < unentered nexts nodes e + pending nexts fs + length fs + pending nexts (f ∷ []) + 1
         by_case true h = let t = lengths in omega arith
         by_case false h =

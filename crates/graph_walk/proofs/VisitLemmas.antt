@@ -86,13 +86,17 @@ module _ (nexts : Elem → List Elem) where
     where
       entered_new : IsNew x (e ++ y ∷ []) f → IsNew x e f'
       entered_new n = (keeps w x n.0, not_before x y e n.1)
+
       by_left : (is_in x l ≡ true) ⊎ IsNew x (e ++ y ∷ []) f → (is_in x l ≡ true) ⊎ IsNew x e f'
       by_left (inl o) = inl o
       by_left (inr n) = inr (entered_new n)
+
       itself : x ≡ y → IsNew x e f'
       itself s = subst (λ z. IsNew z e f') (sym s) (keeps w y (keeps v y (in_last y e)), j)
+
       later : IsNew x f f' → IsNew x e f'
       later n = (n.0, elim (cases_Bool (is_in x e)) [ inl o ↦ absurd (both_ways _ n.1 (keeps v x (in_front x y e o))) | inr o ↦ o ])
+
       by_case : (is_in x (k ++ y ∷ []) ≡ true) ⊎ IsNew x f f' → (is_in x k ≡ true → (is_in x l ≡ true) ⊎ IsNew x (e ++ y ∷ []) f) → (is_in x l ≡ true) ⊎ IsNew x e f'
       by_case (inr n) inner = inr (later n)
       by_case (inl p) inner = elim (front_or_last x y k p) [ inl q ↦ by_left (inner q) | inr s ↦ inr (itself s) ]
@@ -111,11 +115,13 @@ module _ (nexts : Elem → List Elem) where
     where
       wider : IsInside l (e ++ y ∷ [])
       wider x i = in_front x y e (h x i)
+
       inside : IsInside (k ++ y ∷ []) f
       inside x i = elim (front_or_last x y k i) [ inl p ↦ left_inside v wider x p | inr s ↦ ap (λ z. is_in z f) s ∙ keeps v y (in_last y e) ]
+
       not_left : is_in y k ≡ false
       not_left = elim (cases_Bool (is_in y k)) [
-        inr o ↦ o
+        | inr o ↦ o
         | inl i ↦ elim (left_from v y i) [ inl p ↦ absurd (both_ways _ j (h y p)) | inr n ↦ absurd (both_ways _ n.1 (in_last y e)) ]
       ]
 

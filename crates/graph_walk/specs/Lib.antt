@@ -5,4 +5,5 @@ pub mod Paths
 pub mod BreadthFirst
 pub mod DepthFirst
 pub mod Stacks
+pub mod Closures
 pub mod Faults

@@ -1,4 +1,4 @@
-ghost use Rattle.std.specs.Prelude.{◌≡◌, ◌+◌, true, false, length, Err, IfOk, IfErr, OnOk};
+ghost use Rattle.std.specs.Prelude.{◌≡◌, ◌+◌, [], true, false, length, Err, IfOk, IfErr, OnOk};
 ghost use Rattle.graph_walk.specs.declared.faults.WalkFault.TheVariants.{NoNode};
 ghost use Rattle.graph_walk.specs.BreadthFirst.{IsBreadthFirst};
 ghost use Rattle.graph_walk.specs.Faults.{RefusesWalk};
@@ -27,16 +27,32 @@ pub fn breadth_first<W: Walkable, L: Ledger>(
     if !g.has(a, steps) {
         return Err(WalkFault::NoNode);
     }
-    let _directed = g.directed();
     let mut found = Found::new(alloc);
-    found.put(&a)?;
+    find_from(g, &a, &mut found, steps)?;
+    Ok(found.into_list())
+}
+
+/// Finds the nodes to which a path from a node leads, breadth first, where nothing is found yet.
+pub fn find_from<W: Walkable, L: Ledger>(
+    g: &W,
+    a: &Elem,
+    found: &mut Found,
+    steps: &mut Steps<L>,
+) -> Result<(), NoMemory>
+    requires node { is_in a.now (W.graph g.now).nodes ≡ true }
+    requires empty { found.old ≡ [] }
+    ensures order { OnOk result (IsBreadthFirst (nexts (W.graph g.now)) a.now found.new) }
+    ensures steps { OnOk result (steps.new ≡ steps.old + calls (nexts (W.graph g.now)) found.new) }
+{
+    let _directed = g.directed();
+    found.put(a)?;
     let mut next = 0;
     while next < found.len() {
         let node = found.at(next);
-        find_nexts(g, &node, &mut found, steps)?;
+        find_nexts(g, &node, found, steps)?;
         next += 1;
     }
-    Ok(found.into_list())
+    Ok(())
 }
 
 /// Finds the next nodes of a node.

@@ -22,3 +22,25 @@ impl From<NoMemory> for WalkFault {
         WalkFault::NoMemory
     }
 }
+
+/// Why there is no closure.
+#[derive(Clone, Copy, Debug, PartialEq, Eq, Drop, Error)]
+pub enum ClosureFault {
+    /// Its nodes and edges are more than there is room for.
+    #[error("no room for the closure")]
+    Limit,
+    /// Want of memory.
+    #[error("no memory")]
+    NoMemory,
+}
+
+impl From<NoMemory> for ClosureFault {
+    ghost use Rattle.std.specs.Prelude.{◌≡◌};
+    ghost use Rattle.graph_walk.specs.declared.faults.ClosureFault.TheVariants.{NoMemory as WantOfMemory};
+
+    ghost from_gives = { λ x r. r ≡ WantOfMemory };
+
+    fn from(_fault: NoMemory) -> ClosureFault {
+        ClosureFault::NoMemory
+    }
+}

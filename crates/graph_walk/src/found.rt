@@ -54,6 +54,13 @@ impl Found {
         self.order[i]
     }
 
+    /// Whether an element is there.
+    pub fn has(&self, x: &Elem) -> bool
+        ensures { result ≡ is_in x.now self.now }
+    {
+        self.seen.contains(x)
+    }
+
     /// Puts an element, last, where it is new, and tells whether it is.
     pub fn put(&mut self, x: &Elem) -> Result<bool, NoMemory>
         ensures new { IfOk result (λ new. new ≡ not (is_in x.now self.old)) }

@@ -1,8 +1,11 @@
-//! Walks through any graph that tells its nodes and its next nodes one after another, as Guava's `Traverser` and `Graphs`:
-//! breadth first and depth first. The order of nodes and edges in the graph decides every order.
+//! Walks through any graph that tells its nodes, and the next nodes of a node, one after another: breadth first, depth first,
+//! and its transitive closure, as Guava's `Traverser` and `Graphs`. The order of nodes and edges in the graph decides the
+//! order of each answer.
 #![tactic(auto)]
 
 mod breadth_walk;
+mod closure_pairs;
+mod closures;
 mod depth_stack;
 mod depth_walk;
 mod faults;
@@ -15,6 +18,8 @@ mod visits;
 mod walkable;
 
 pub use breadth_walk::breadth_first;
+pub use closure_pairs::Closure;
+pub use closures::closure;
 pub use depth_walk::{depth_post, depth_pre};
-pub use faults::WalkFault;
+pub use faults::{ClosureFault, WalkFault};
 pub use walkable::Walkable;

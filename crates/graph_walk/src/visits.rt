@@ -99,7 +99,7 @@ fn enter<W: Walkable, L: Ledger>(
 }
 
 /// Appends an item.
-fn push<T: Copy>(items: &mut Vec<T>, item: &T) -> Result<(), NoMemory>
+pub fn push<T: Copy>(items: &mut Vec<T>, item: &T) -> Result<(), NoMemory>
     ensures { OnOk result (items.new.items ≡ items.old.items ++ item.now ∷ []) }
 {
     match items.push(*item) {

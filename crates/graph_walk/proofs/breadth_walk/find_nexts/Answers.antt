@@ -1,9 +1,6 @@
-use Rattle.std.proofs.Common.{◌≡◌, ◌+◌, suc, length, List, ◌∷◌, Some, ap, sym, ◌∙◌, subst, arith}
-use Rattle.std.specs.List.{IsDistinct}
-use Rattle.elem.specs.declared.elements.Elem.{Elem}
-use Rattle.elem.specs.Elements.{same}
-use Rattle.graph_walk.specs.Found.{with_new, with_all}
-use Rattle.graph_walk.specs.Graphs.{is_in, nexts}
+use Rattle.std.proofs.Common.{◌≡◌, ◌+◌, suc, length, ◌∷◌, ap, sym, ◌∙◌, subst, arith}
+use Rattle.graph_walk.specs.Found.{with_all}
+use Rattle.graph_walk.specs.Graphs.{nexts}
 use Rattle.graph_walk.proofs.NextsLemmas.{nexts_distinct}
 use Rattle.graph_walk.specs.Places.{left_at, IsAmong}
 use Rattle.graph_walk.proofs.TurnLemmas.{left-first, left-after, first_among, after_among}

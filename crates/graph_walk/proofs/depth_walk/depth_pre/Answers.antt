@@ -1,4 +1,4 @@
-use Rattle.std.proofs.Common.{[], ◌∷◌, ap, sym, ◌∙◌, subst}
+use Rattle.std.proofs.Common.{[], ◌∷◌, sym, subst}
 use Rattle.graph_walk.specs.Graphs.{nexts}
 use Rattle.graph_walk.specs.DepthFirst.{Visits}
 use Rattle.graph_walk.specs.Paths.{AreReached}

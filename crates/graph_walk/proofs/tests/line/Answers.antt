@@ -1,7 +1,6 @@
 use Rattle.std.proofs.Common.{refl}
 use Rattle.std.specs.List.{IsDistinct}
 use Rattle.elem.specs.Elements.{same}
-use Rattle.graph_walk.specs.Graphs.{IsValid}
 use Rattle.graph_walk.proofs.tests.line.Goals as goal
 
 pub make_listed-requires : goal.make_listed-requires

@@ -1,4 +1,4 @@
-use Rattle.std.proofs.Common.{◌≡◌, ◌+◌, refl, ap, sym, ◌∙◌, subst}
+use Rattle.std.proofs.Common.{◌+◌, ap, sym, ◌∙◌, subst}
 use Rattle.graph_walk.specs.Graphs.{is_in, nexts}
 use Rattle.graph_walk.specs.Paths.{calls}
 use Rattle.graph_walk.specs.Stacks.{AreFrames, pending}
@@ -15,7 +15,7 @@ loop-frame-init g c =
       visits = λ e l h. opened_visits next a walk.entered walk.left.items e l (finishes_same next _ _ _ _ _ _ e l stack c.in_ok-enter.ensures.entered c.in_ok-enter.ensures.left h);
       framed = subst (λ fs. AreFrames next graph.nodes fs) (sym stack) (opened_frames next a walk.entered graph.nodes (is_in a walk.entered) c.requires.node);
       steps =
-        ap (λ fs. c.enter.new.steps + pending next fs + calls next walk.entered) stack
-        ∙ opened_calls next a walk.entered c.args.steps.now c.enter.new.steps c.in_ok-enter.ensures.steps
-        ∙ ap (λ e. c.args.steps.now + calls next e) (sym c.in_ok-enter.ensures.entered);
+          ap (λ fs. c.enter.new.steps + pending next fs + calls next walk.entered) stack
+          ∙ opened_calls next a walk.entered c.args.steps.now c.enter.new.steps c.in_ok-enter.ensures.steps
+          ∙ ap (λ e. c.args.steps.now + calls next e) (sym c.in_ok-enter.ensures.entered);
     }
