@@ -1,0 +1,5 @@
+pub mod Sides
+pub mod NamedEdges
+pub mod Networks
+pub mod Faults
+pub mod Held
