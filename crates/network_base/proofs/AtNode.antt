@@ -1,5 +1,5 @@
 -- The edges at a node, by their halves.
-use Rattle.std.proofs.Common.{◌≡◌, ℕ, zero, suc, Bool, true, false, cond, List, [], ◌∷◌, ◌++◌, map, length, Option, Some, None, refl, sym, ap, ◌∙◌, subst, slice_get, add-one, ◌+◌}
+use Rattle.std.proofs.Common.{◌≡◌, ℕ, Bool, true, false, cond, List, [], ◌∷◌, ◌++◌, map, length, Option, Some, None, refl, sym, ap, ◌∙◌, subst, slice_get, add-one, ◌+◌}
 use Rattle.std.specs.Prelude.{IsSome, ◌||◌, nat_eq}
 use Rattle.std.specs.Option.{option_map}
 use Rattle.std.specs.List.{filter, flat_map, IsDistinct, AllByRecursion}
@@ -7,18 +7,19 @@ use Rattle.std.specs.Map.{lookup, keys_of}
 use Rattle.std.proofs.lemmas.List.{length-map}
 use Rattle.std.proofs.lemmas.List.Elements.{filter-append}
 use Rattle.std.proofs.lemmas.Option.{slice_get-map}
-use Rattle.std.proofs.lemmas.Bool.Decides.{Decides-eqb}
 use Rattle.elem.specs.declared.elements.Elem.{Elem}
 use Rattle.elem.specs.Elements.{same}
 use Rattle.elem.specs.ElementLaws.{same-Decides, same_equiv}
 use Rattle.elem.specs.Keyed.{HasDistinctKeys}
-use Rattle.elem.specs.Rows.{first_key, key_after}
+use Rattle.elem.specs.Rows.{key_after}
 use Rattle.elem.proofs.RowsLemmas.{lookup_at}
 use Rattle.linked_base.proofs.KeyedLemmas.{distinct_without, none_left}
 use Rattle.mm_base.specs.PairRows.{Row, HasDistinctIds, IsLive, pairs_of_key, rows_beside, id_of, pair_of}
 use Rattle.mm_base.proofs.PairRowsLemmas.{its_row, nth_is_live, nth_pair}
 use Rattle.graph_base.specs.Edges.{Edge, is_at, incident}
 use Rattle.graph_base.proofs.Cuts.{filter-map, nth_cut}
+use Rattle.network_base.proofs.Positions.{nth_after}
+use Rattle.std.specs.Cmp.{nat_eq_equiv}
 use Rattle.network_base.specs.declared.named_edges.Joined.{Joined}
 use Rattle.network_base.specs.NamedEdges.{Named, edge_of, edges_of, halves_of}
 
@@ -26,11 +27,11 @@ abbrev second_half : Named → Row
 second_half row = (row.1.second, (row.1.to, row.0))
 
 module _ {X Y : Type 0} (f : X → Y) where
-  some_under : (o : Option X) (y : Y) → option_map f o ≡ Some y → (x : X) × (o ≡ Some x) × (f x ≡ y)
+  pub some_under : (o : Option X) (y : Y) → option_map f o ≡ Some y → (x : X) × (o ≡ Some x) × (f x ≡ y)
   some_under None y e = absurd (cc)
   some_under (Some x) y e = (x, refl, cc)
 
--- the id after that of row number k
+-- rows of distinct ids that pass a test
 module _ (test : Row → Bool) where
   others_pass : (q : ℕ) (rows : List Row) → AllByRecursion (λ y. nat_eq q y ≡ false) (keys_of rows) → AllByRecursion (λ y. nat_eq q y ≡ false) (keys_of (filter test rows))
   others_pass q [] h = tt
@@ -48,27 +49,6 @@ module _ (test : Row → Bool) where
       by_case : (t : Bool) → IsDistinct nat_eq (keys_of (filter test rows)) → IsDistinct nat_eq (keys_of (cond t (r ∷ filter test rows) (filter test rows)))
       by_case true k = (others_pass r.0 rows d.0, k)
       by_case false k = k
-
-other_id : (q : ℕ) (rows : List Row) (k : ℕ) (r : Row) → AllByRecursion (λ y. nat_eq q y ≡ false) (keys_of rows) → slice_get rows k ≡ Some r → nat_eq r.0 q ≡ false
-other_id q [] k r h e = absurd (cc)
-other_id q (s ∷ rows) zero r h e = let equal : s ≡ r = cc in turned (nat_eq r.0 q) refl (ap (λ (x : Row). nat_eq q x.0) (sym equal) ∙ h.0)
-  where
-    turned : (t : Bool) → nat_eq r.0 q ≡ t → nat_eq q r.0 ≡ false → t ≡ false
-    turned true t f = let both = sym (ap (nat_eq q) ((Decides-eqb r.0 q).0 t)) in let own = (Decides-eqb q q).1 refl in let wrong = sym f ∙ sym both ∙ own in absurd (cc)
-    turned false t f = refl
-other_id q (s ∷ rows) (suc k) r h e = other_id q rows k r h.1 e
-
-first_nth : (rows : List Row) → first_key rows ≡ option_map (λ (r : Row). r.0) (slice_get rows 0)
-first_nth [] = refl
-first_nth (r ∷ rows) = refl
-
-nth_after : (rows : List Row) (k : ℕ) (r : Row) → HasDistinctIds rows → slice_get rows k ≡ Some r → key_after (nat_eq r.0) rows ≡ option_map (λ (s : Row). s.0) (slice_get rows (suc k))
-unfolding IsDistinct
-nth_after [] k r d e = absurd (cc)
-nth_after (s ∷ rows) zero r d e =
-    let equal : s ≡ r = cc in
-    ap (λ t. cond t (first_key rows) (key_after (nat_eq r.0) rows)) ((Decides-eqb r.0 s.0).1 (ap (λ (x : Row). x.0) (sym equal))) ∙ first_nth rows
-nth_after (s ∷ rows) (suc k) r d e = ap (λ t. cond t (first_key rows) (key_after (nat_eq r.0) rows)) (other_id s.0 rows k r d.0 e) ∙ nth_after rows k r d.1 e
 
 module _ (a : Elem) where
   -- the rows at the node
@@ -227,5 +207,5 @@ module _ (a : Elem) where
               let distinct = passing_distinct (λ (r : Row). same a r.1.0) halves ids in
               ap (λ o. key_after (nat_eq q) (rows_beside o halves)) pair
               ∙ ap (λ p. key_after (nat_eq p) (pairs_of_key a halves)) (sym id_is)
-              ∙ nth_after (pairs_of_key a halves) k (half_at of_edge.0) distinct here
+              ∙ nth_after nat_eq nat_eq_equiv (pairs_of_key a halves) k (half_at of_edge.0) distinct here
               ∙ ap (λ n. id_of a n halves) (sym (add-one k))

@@ -3,3 +3,4 @@ pub mod NamedEdges
 pub mod Networks
 pub mod Faults
 pub mod Held
+pub mod Shown

@@ -4,10 +4,13 @@
 
 mod faults;
 mod named_edges;
+mod net_steps;
 mod network_edits;
 mod network_rows;
 mod sides;
+mod walking;
 
 pub use faults::NetFault;
+pub use net_steps::{NetGone, NetItem, NetStep};
 pub use network_rows::NetworkRows;
 pub use sides::Side;

@@ -115,6 +115,25 @@ impl NamedEdges {
         self.halves.count_of(*a)
     }
 
+    /// The first edge.
+    pub fn first(&self) -> Option<(Elem, Elem, Elem)>
+        ensures { result ≡ slice_get self.now 0 }
+    {
+        let _len = self.rows.len();
+        let x = self.rows.first()?;
+        Some(whole_edge(&self.rows, &x))
+    }
+
+    /// The edge after another.
+    pub fn after(&self, e: &(Elem, Elem, Elem)) -> Option<(Elem, Elem, Elem)>
+        requires { (k : ℕ) × (slice_get self.now k ≡ Some e.now) }
+        ensures { (k : ℕ) → slice_get self.now k ≡ Some e.now → result ≡ slice_get self.now (k + 1) }
+    {
+        let _len = self.rows.len();
+        let next = self.rows.after(e.2)?;
+        Some(whole_edge(&self.rows, &next))
+    }
+
     /// The first edge at a node.
     pub fn first_at(&self, a: &Elem) -> Option<(Elem, Elem, Elem)>
         ensures { result ≡ slice_get (incident a.now self.now) 0 }

@@ -8,6 +8,8 @@ ghost use Rattle.network_base.specs.Sides.{way_of};
 ghost use Rattle.network_base.specs.Faults.{RefusesEdge};
 ghost use Rattle.network_base.specs.Networks.{ends_of, with_edge, without_edge, has_other_ends, IsNetwork};
 
+mod views;
+
 use crate::named_edges::NamedEdges;
 use crate::network_edits::{are_joined, drop_edge, drop_edges_at, is_refused, put_new_edge};
 use crate::sides::way_of;

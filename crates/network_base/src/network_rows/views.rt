@@ -1,0 +1,75 @@
+//! The sets that are read from a network.
+ghost use Rattle.std.specs.Prelude.{◌≡◌, ◌+◌, cond, slice_get, Ok, Err};
+ghost use Rattle.mm_base.specs.KeyedRows.{contains};
+ghost use Rattle.network_base.specs.declared.net_steps.NetGone.{NetGone as Gone};
+ghost use Rattle.network_base.specs.Shown.{is_there, shown};
+
+use super::NetworkRows;
+use crate::net_steps::{centre, gives_nodes, item};
+use crate::walking::nth_passing;
+use crate::{NetGone, NetItem, NetStep};
+use elem::{Elem, Steps};
+use std::sync::ledger::Ledger;
+
+impl NetworkRows {
+    /// Item number `i` of a set, counted from 0. A set at a node is read from the edges at it, in time in proportion to
+    /// their number.
+    pub fn shown_at<L: Ledger>(
+        &self,
+        step: &NetStep,
+        i: usize,
+        steps: &mut Steps<L>,
+    ) -> Result<Option<NetItem>, NetGone>
+        ensures answer { result ≡ cond (is_there step.now self.now) (Ok (slice_get (shown step.now self.now) i)) (Err (record {})) }
+        ensures step { steps.new ≡ steps.old + 1 }
+    {
+        steps.tick();
+        if !self.is_there(step) {
+            return Err(NetGone);
+        }
+        Ok(self.nth_shown(step, i))
+    }
+
+    /// Whether the node and the edge that a set is named by are there.
+    fn is_there(&self, step: &NetStep) -> bool
+        ensures { result ≡ is_there step.now self.now }
+    {
+        match step {
+            NetStep::Nodes => true,
+            NetStep::Edges => true,
+            NetStep::AdjacentNodes(a) => self.has(a),
+            NetStep::Predecessors(a) => self.has(a),
+            NetStep::Successors(a) => self.has(a),
+            NetStep::IncidentEdges(a) => self.has(a),
+            NetStep::InEdges(a) => self.has(a),
+            NetStep::OutEdges(a) => self.has(a),
+            NetStep::EdgesConnecting(a, b) => self.has(a) && self.has(b),
+            NetStep::AdjacentEdges(x) => self.edges.ends(x).is_some(),
+            NetStep::GraphNodes => true,
+            NetStep::GraphEdges => true,
+            NetStep::GraphAdjacentNodes(a) => self.has(a),
+            NetStep::GraphPredecessors(a) => self.has(a),
+            NetStep::GraphSuccessors(a) => self.has(a),
+        }
+    }
+
+    /// Whether there is a node.
+    fn has(&self, a: &Elem) -> bool
+        ensures { result ≡ contains a.now self.now.nodes }
+    {
+        self.nodes.probe(*a).is_some()
+    }
+
+    /// Item number `i` of a set.
+    fn nth_shown(&self, step: &NetStep, i: usize) -> Option<NetItem>
+        ensures { result ≡ slice_get (shown step.now self.now) i }
+    {
+        if gives_nodes(step) {
+            let (a, _degrees) = self.nodes.row_at(i)?;
+            return Some(NetItem::One(a));
+        }
+        let around = centre(step);
+        let e = nth_passing(&self.edges, self.directed, step, &around, i)?;
+        Some(item(step, &e))
+    }
+}
