@@ -1,5 +1,5 @@
 -- All edges that a set is read from are around its centre.
-use Rattle.std.proofs.Common.{◌≡◌, ◌⊎◌, inl, inr, Bool, true, false, not, List, refl, ap, ◌∙◌}
+use Rattle.std.proofs.Common.{◌≡◌, ℕ, slice_get, Some, ◌⊎◌, inl, inr, Bool, true, false, not, List, Option, refl, ap, ◌∙◌}
 use Rattle.std.specs.Prelude.{◌||◌, ◌&&◌}
 use Rattle.std.specs.List.{filter}
 use Rattle.elem.specs.declared.elements.Elem.{Elem}
@@ -9,7 +9,7 @@ use Rattle.graph_base.proofs.EndsLemmas.{and_parts, or_parts}
 use Rattle.network_base.specs.declared.net_steps.NetStep.{NetStep}
 use Rattle.network_base.specs.declared.net_steps.NetStep.TheVariants.{Nodes, Edges, AdjacentNodes, Predecessors, Successors, IncidentEdges, InEdges, OutEdges, EdgesConnecting, AdjacentEdges, GraphNodes, GraphEdges, GraphAdjacentNodes, GraphPredecessors, GraphSuccessors}
 use Rattle.network_base.specs.Shown.{centre, around, passes, enters, leaves, is_first}
-use Rattle.network_base.proofs.Passing.{filter_within}
+use Rattle.network_base.proofs.Passing.{filter_within, some_among, some_before}
 
 either : (s t : Bool) → (s ≡ true) ⊎ (t ≡ true) → (s || t) ≡ true
 either s t (inl e) = ap (λ b. b || t) e
@@ -60,3 +60,12 @@ module _ (directed : Bool) (edges : List Edge) where
   pub joining_around : (a b end : Elem) → (end ≡ a) ⊎ (end ≡ b) → filter (joins directed a b) (incident end edges) ≡ filter (joins directed a b) edges
   joining_around a b end (inl e) = filter_within (joins directed a b) (is_at end) (λ x h. ap (λ y. is_at y x) e ∙ (joins_at directed a b x h).0) edges
   joining_around a b end (inr e) = filter_within (joins directed a b) (is_at end) (λ x h. ap (λ y. is_at y x) e ∙ (joins_at directed a b x h).1) edges
+
+-- an edge that passes is around the centre
+pub passing_around : (directed : Bool) (edges : List Edge) (step : NetStep) (e : Edge) (k : ℕ) → slice_get edges k ≡ Some e → passes directed edges step e ≡ true → (m : ℕ) × (slice_get (around (centre step) edges) m ≡ Some e)
+passing_around directed edges step e k f t =
+    let c = some_among (passes directed edges step) edges k e f t in
+    within_around (passes directed edges step) edges (centre step) (all_around directed edges step) c.0 e c.1
+  where
+    within_around : (test : Edge → Bool) (es : List Edge) (o : Option Elem) → filter test (around o es) ≡ filter test es → (i : ℕ) (z : Edge) → slice_get (filter test es) i ≡ Some z → (m : ℕ) × (slice_get (around o es) m ≡ Some z)
+    within_around test es o equal i z g = some_before test (around o es) i z (ap (λ l. slice_get l i) equal ∙ g)

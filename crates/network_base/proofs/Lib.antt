@@ -5,4 +5,7 @@ pub mod AllEdges
 pub mod NetworkLemmas
 pub mod Passing
 pub mod Centres
+pub mod EdgeAfter
+pub mod NextPassing
 pub mod ShownLemmas
+pub mod SpotLemmas

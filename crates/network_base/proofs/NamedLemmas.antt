@@ -69,7 +69,7 @@ without_at (u ∷ us) e vs d = (λ i. cond (not (other us d.0 i)) (u ∷ without
     other [] h = turned (same e.2 u.2) refl h.0
     other (w ∷ ws) h = other ws h.1
 
-absent_differ : (x : Elem) (edges : List Edge) → ends_of x edges ≡ None → AllByRecursion (λ y. same x y ≡ false) (names edges)
+pub absent_differ : (x : Elem) (edges : List Edge) → ends_of x edges ≡ None → AllByRecursion (λ y. same x y ≡ false) (names edges)
 absent_differ x [] e = tt
 absent_differ x (k ∷ edges) e = by_case (same x k.2) refl (absent_differ x edges) e
   where

@@ -29,27 +29,48 @@ module _ {X : Type 0} where
       by_case false true p q e = let both = sym p ∙ h x q in absurd (cc)
       by_case false false p q e = e
 
-module _ {X : Type 0} (test : X → Bool) (xs : List X) (i : ℕ) where
-  -- the walk stands at number n, and as many are left to count
+module _ {X : Type 0} (test : X → Bool) where
+  -- what passes stands among those that pass
+  pub some_among : (xs : List X) (k : ℕ) (x : X) → slice_get xs k ≡ Some x → test x ≡ true → (m : ℕ) × (slice_get (filter test xs) m ≡ Some x)
+  some_among [] k x e t = absurd (cc)
+  some_among (y ∷ xs) zero x e t = let equal : y ≡ x = cc in (0, ap (λ b. slice_get (cond b (y ∷ filter test xs) (filter test xs)) 0) (ap test equal ∙ t) ∙ ap Some equal)
+  some_among (y ∷ xs) (suc k) x e t = by_case (test y) (some_among xs k x e t)
+    where
+      by_case : (b : Bool) → (m : ℕ) × (slice_get (filter test xs) m ≡ Some x) → (m : ℕ) × (slice_get (cond b (y ∷ filter test xs) (filter test xs)) m ≡ Some x)
+      by_case true c = (suc c.0, c.1)
+      by_case false c = c
+
+  -- and was there before
+  pub some_before : (xs : List X) (k : ℕ) (x : X) → slice_get (filter test xs) k ≡ Some x → (m : ℕ) × (slice_get xs m ≡ Some x)
+  some_before [] k x e = absurd (cc)
+  some_before (y ∷ xs) k x e = by_case (test y) k e (some_before xs)
+    where
+      later : (m : ℕ) × (slice_get xs m ≡ Some x) → (m : ℕ) × (slice_get (y ∷ xs) m ≡ Some x)
+      later c = (suc c.0, c.1)
+
+      by_case : (b : Bool) (j : ℕ) → slice_get (cond b (y ∷ filter test xs) (filter test xs)) j ≡ Some x → ((n : ℕ) (z : X) → slice_get (filter test xs) n ≡ Some z → (m : ℕ) × (slice_get xs m ≡ Some z)) → (m : ℕ) × (slice_get (y ∷ xs) m ≡ Some x)
+      by_case true zero f rest = (0, f)
+      by_case true (suc j) f rest = later (rest j x f)
+      by_case false j f rest = later (rest j x f)
+
+module _ {X : Type 0} (test : X → Bool) (xs : List X) (target : Option X) where
+  -- the walk stands at number n, and of what passes from there on, number `left` is looked for
   pub record IsWalking (n : ℕ) (at : Option X) (left : ℕ) : Type 0 where
     pub here : at ≡ slice_get xs n
-    pub rest : slice_get (filter test (drop n xs)) left ≡ slice_get (filter test xs) i
-
-  pub walk_start : (at : Option X) → at ≡ slice_get xs 0 → IsWalking 0 at i
-  walk_start at e = record { here = e; rest = refl }
+    pub rest : slice_get (filter test (drop n xs)) left ≡ target
 
   module _ (n : ℕ) (at : Option X) (left : ℕ) (w : IsWalking n at left) where
-    pub walk_over : at ≡ None → None ≡ slice_get (filter test xs) i
+    pub walk_over : at ≡ None → None ≡ target
     walk_over e = sym (ap (λ l. slice_get (filter test l) left) (drop_none xs n (sym w.here ∙ e))) ∙ w.rest
 
-    pub walk_end : length xs ≤ n → None ≡ slice_get (filter test xs) i
+    pub walk_end : length xs ≤ n → None ≡ target
     walk_end h = walk_over (w.here ∙ none_beyond xs n h)
 
     module _ (x : X) (e : at ≡ Some x) where
-      split : (t : Bool) → test x ≡ t → slice_get (cond t (x ∷ filter test (drop (suc n) xs)) (filter test (drop (suc n) xs))) left ≡ slice_get (filter test xs) i
+      split : (t : Bool) → test x ≡ t → slice_get (cond t (x ∷ filter test (drop (suc n) xs)) (filter test (drop (suc n) xs))) left ≡ target
       split t p = ap (λ b. slice_get (cond b (x ∷ filter test (drop (suc n) xs)) (filter test (drop (suc n) xs))) left) (sym p) ∙ sym (ap (λ l. slice_get (filter test l) left) (drop_at xs n x (sym w.here ∙ e))) ∙ w.rest
 
-      pub walk_found : test x ≡ true → left ≡ 0 → Some x ≡ slice_get (filter test xs) i
+      pub walk_found : test x ≡ true → left ≡ 0 → Some x ≡ target
       walk_found t z = ap (λ m. slice_get (x ∷ filter test (drop (suc n) xs)) m) (sym z) ∙ split true t
 
       pub walk_counted : test x ≡ true → (fewer : ℕ) → fewer + 1 ≡ left → (next : Option X) → next ≡ slice_get xs (n + 1) → IsWalking (n + 1) next fewer
@@ -63,3 +84,9 @@ module _ {X : Type 0} (test : X → Bool) (xs : List X) (i : ℕ) where
         here = h;
         rest = ap (λ k. slice_get (filter test (drop k xs)) left) (add-one n) ∙ split false t;
       }
+
+  -- the same walk, that has come at least as far as it took steps
+  pub record IsOnward (taken : ℕ) (at : Option X) : Type 0 where
+    pub number : ℕ
+    pub far : taken ≤ number
+    pub walking : IsWalking number at 0

@@ -4,3 +4,4 @@ pub mod Networks
 pub mod Faults
 pub mod Held
 pub mod Shown
+pub mod ShownLaws

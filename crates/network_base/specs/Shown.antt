@@ -1,5 +1,5 @@
 -- What the sets that are read from a network show.
-use Rattle.std.specs.Prelude.{Bool, true, false, not, cond, ◌&&◌, ◌||◌, List, map, Option, Some, None, is_some}
+use Rattle.std.specs.Prelude.{Bool, true, false, not, cond, ◌&&◌, ◌||◌, List, [], ◌∷◌, map, slice_get, Option, Some, None, is_some}
 use Rattle.std.specs.List.{filter}
 use Rattle.elem.specs.declared.elements.Elem.{Elem}
 use Rattle.elem.specs.Elements.{same}
@@ -102,6 +102,20 @@ gives_nodes _ = false
 -- what a set shows, in order
 abbrev pub shown : NetStep → Graph → List NetItem
 shown step g = cond (gives_nodes step) (map One g.nodes) (map (item step) (filter (passes g.directed g.edges step) g.edges))
+
+-- the items of a set in order, each under the node or the edge that shows it
+abbrev pub spots : NetStep → Graph → List (Elem × NetItem)
+spots step g = cond (gives_nodes step) (map (λ a. (a, One a)) g.nodes) (map (λ (e : Edge). (e.2, item step e)) (filter (passes g.directed g.edges step) g.edges))
+
+-- the row after that of a key
+abbrev pub row_after : Elem → List (Elem × NetItem) → Option (Elem × NetItem)
+row_after k [] = None
+row_after k (row ∷ rows) = cond (same k row.0) (slice_get rows 0) (row_after k rows)
+
+-- the edge after another
+abbrev pub edge_after : Elem → List Edge → Option Edge
+edge_after x [] = None
+edge_after x (e ∷ edges) = cond (same x e.2) (slice_get edges 0) (edge_after x edges)
 
 -- a node at which all edges are that a set is read from, where there is one
 abbrev pub centre : NetStep → Option Elem

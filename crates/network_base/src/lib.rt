@@ -8,6 +8,8 @@ mod net_steps;
 mod network_edits;
 mod network_rows;
 mod sides;
+#[cfg(test)]
+mod tests;
 mod walking;
 
 pub use faults::NetFault;

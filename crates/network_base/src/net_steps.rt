@@ -1,4 +1,5 @@
 ghost use Rattle.std.specs.Prelude.{◌≡◌};
+ghost use Rattle.network_base.specs.declared.net_steps.NetItem.TheVariants.{One};
 ghost use Rattle.network_base.specs.Shown.{gives_nodes, centre, other_end, item};
 
 use elem::{Elem, same};
@@ -88,4 +89,18 @@ pub fn item(step: &NetStep, e: &(Elem, Elem, Elem)) -> NetItem
         NetStep::GraphEdges => NetItem::Pair(e.0, e.1),
         _ => NetItem::One(e.2),
     }
+}
+
+/// A node as an item of a set, under itself.
+pub fn node_spot(a: &Elem) -> (Elem, NetItem)
+    ensures { result ≡ (a.now, One a.now) }
+{
+    (*a, NetItem::One(*a))
+}
+
+/// What an edge shows in a set, under the edge.
+pub fn edge_spot(step: &NetStep, e: &(Elem, Elem, Elem)) -> (Elem, NetItem)
+    ensures { result ≡ (e.now.2, item step.now e.now) }
+{
+    (e.2, item(step, e))
 }

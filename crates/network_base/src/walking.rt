@@ -3,10 +3,10 @@ ghost use Rattle.std.specs.Prelude.{◌≡◌, ◌⊎◌, ℕ, ◌+◌, length, 
 ghost use Rattle.std.specs.List.{filter};
 ghost use Rattle.graph_base.specs.Edges.{edge_joining, is_at};
 ghost use Rattle.network_base.specs.Networks.{ends_of};
-ghost use Rattle.network_base.specs.Shown.{around, enters, leaves, shares_end, is_first, passes};
+ghost use Rattle.network_base.specs.Shown.{around, enters, leaves, shares_end, is_first, passes, edge_after};
 
 use crate::named_edges::NamedEdges;
-use crate::net_steps::NetStep;
+use crate::net_steps::{NetStep, centre};
 use crate::network_edits::are_joined;
 use elem::{Elem, same};
 
@@ -172,6 +172,35 @@ pub fn nth_passing(
             left -= 1;
         }
         at = after_around(edges, centre, &e);
+    }
+    None
+}
+
+/// The edge after another of those that show an item in a set.
+pub fn next_passing(
+    edges: &NamedEdges,
+    directed: bool,
+    step: &NetStep,
+    x: &Elem,
+) -> Option<(Elem, Elem, Elem)>
+    ensures { result ≡ edge_after x.now (filter (passes directed edges.now step.now) edges.now) }
+{
+    let _len = edges.len();
+    let (from, to) = edges.ends(x)?;
+    let start = (from, to, *x);
+    if !passes(edges, directed, step, &start) {
+        return None;
+    }
+    let centre = centre(step);
+    let mut at = after_around(edges, &centre, &start);
+    for _step in 0..count_around(edges, &centre) {
+        let Some(e) = at else {
+            return None;
+        };
+        if passes(edges, directed, step, &e) {
+            return Some(e);
+        }
+        at = after_around(edges, &centre, &e);
     }
     None
 }

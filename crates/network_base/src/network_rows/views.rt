@@ -2,11 +2,11 @@
 ghost use Rattle.std.specs.Prelude.{◌≡◌, ◌+◌, cond, slice_get, Ok, Err};
 ghost use Rattle.mm_base.specs.KeyedRows.{contains};
 ghost use Rattle.network_base.specs.declared.net_steps.NetGone.{NetGone as Gone};
-ghost use Rattle.network_base.specs.Shown.{is_there, shown};
+ghost use Rattle.network_base.specs.Shown.{is_there, shown, spots, row_after};
 
 use super::NetworkRows;
-use crate::net_steps::{centre, gives_nodes, item};
-use crate::walking::nth_passing;
+use crate::net_steps::{centre, edge_spot, gives_nodes, item, node_spot};
+use crate::walking::{next_passing, nth_passing};
 use crate::{NetGone, NetItem, NetStep};
 use elem::{Elem, Steps};
 use std::sync::ledger::Ledger;
@@ -28,6 +28,40 @@ impl NetworkRows {
             return Err(NetGone);
         }
         Ok(self.nth_shown(step, i))
+    }
+
+    /// The first item of a set, and the node or the edge that shows it.
+    pub fn first_shown<L: Ledger>(
+        &self,
+        step: &NetStep,
+        steps: &mut Steps<L>,
+    ) -> Result<Option<(Elem, NetItem)>, NetGone>
+        ensures answer { result ≡ cond (is_there step.now self.now) (Ok (slice_get (spots step.now self.now) 0)) (Err (record {})) }
+        ensures step { steps.new ≡ steps.old + 1 }
+    {
+        steps.tick();
+        if !self.is_there(step) {
+            return Err(NetGone);
+        }
+        Ok(self.first_spot(step))
+    }
+
+    /// The item after the one that a node or an edge shows, and what shows it. A walk along a set, from `first_shown` on,
+    /// goes once along the edges that it is read from.
+    pub fn next_shown<L: Ledger>(
+        &self,
+        step: &NetStep,
+        spot: Elem,
+        steps: &mut Steps<L>,
+    ) -> Result<Option<(Elem, NetItem)>, NetGone>
+        ensures answer { result ≡ cond (is_there step.now self.now) (Ok (row_after spot (spots step.now self.now))) (Err (record {})) }
+        ensures step { steps.new ≡ steps.old + 1 }
+    {
+        steps.tick();
+        if !self.is_there(step) {
+            return Err(NetGone);
+        }
+        Ok(self.spot_after(step, &spot))
     }
 
     /// Whether the node and the edge that a set is named by are there.
@@ -71,5 +105,33 @@ impl NetworkRows {
         let around = centre(step);
         let e = nth_passing(&self.edges, self.directed, step, &around, i)?;
         Some(item(step, &e))
+    }
+
+    /// The first item of a set, and what shows it.
+    fn first_spot(&self, step: &NetStep) -> Option<(Elem, NetItem)>
+        ensures { result ≡ slice_get (spots step.now self.now) 0 }
+    {
+        if gives_nodes(step) {
+            let a = self.nodes.first()?;
+            return Some(node_spot(&a));
+        }
+        let around = centre(step);
+        let e = nth_passing(&self.edges, self.directed, step, &around, 0)?;
+        Some(edge_spot(step, &e))
+    }
+
+    /// The item after another, and what shows it.
+    fn spot_after(&self, step: &NetStep, spot: &Elem) -> Option<(Elem, NetItem)>
+        ensures { result ≡ row_after spot.now (spots step.now self.now) }
+    {
+        if gives_nodes(step) {
+            if self.nodes.probe(*spot).is_none() {
+                return None;
+            }
+            let a = self.nodes.after(*spot)?;
+            return Some(node_spot(&a));
+        }
+        let e = next_passing(&self.edges, self.directed, step, spot)?;
+        Some(edge_spot(step, &e))
     }
 }
