@@ -54,3 +54,13 @@ module _ (rows : List Named) where
 
       pub next_key : key_after (same z.2) rows ≡ option_map key_of (slice_get rows (k + 1))
       next_key = ap (λ x. key_after (same x) rows) (sym name_of) ∙ nth_after same same_equiv rows k of_edge.0 distinct of_edge.1 ∙ ap (λ n. option_map key_of (slice_get rows n)) (sym (add-one k))
+
+      -- the row that its look-up tells stands at its number
+      pub edge_row_at : (row : Joined) → lookup (same z.2) rows ≡ Some row → slice_get rows k ≡ Some (z.2, row)
+      edge_row_at row g =
+          let its : lookup (same z.2) rows ≡ Some of_edge.0.1 = subst (λ x. lookup (same x) rows ≡ Some of_edge.0.1) name_of (nth_found same same_equiv rows k of_edge.0 distinct of_edge.1) in
+          let equal = inside of_edge.0.1 row (sym its ∙ g) in
+          of_edge.1 ∙ (λ i. Some (name_of i, equal i))
+        where
+          inside : (x y : Joined) → ◌≡◌ {A = Option Joined} (Some x) (Some y) → x ≡ y
+          inside x y h = cc

@@ -9,3 +9,5 @@ pub mod EdgeAfter
 pub mod NextPassing
 pub mod ShownLemmas
 pub mod SpotLemmas
+pub mod Rising
+pub mod Merging

@@ -1,5 +1,5 @@
 -- Rows of edges: found by their elements, one put last, one taken out.
-use Rattle.std.proofs.Common.{◌≡◌, Bool, true, false, cond, not, List, [], ◌∷◌, ◌++◌, Option, Some, None, refl, sym, ap, ◌∙◌, subst, append-nil}
+use Rattle.std.proofs.Common.{◌≡◌, Bool, true, false, cond, not, List, [], ◌∷◌, ◌++◌, Option, Some, None, refl, sym, ap, ◌∙◌, subst, append-nil, ℕ, ◌+◌, ◌<◌, ◌≤◌, arith}
 use Rattle.std.specs.List.{flat_map, IsDistinct, AllByRecursion}
 use Rattle.std.specs.Map.{lookup, remove_entry, keys_of}
 use Rattle.std.proofs.lemmas.Map.{NonePasses}
@@ -12,8 +12,9 @@ use Rattle.elem.specs.Keyed.{HasDistinctKeys}
 use Rattle.elem.proofs.RowsLemmas.{remove_at}
 use Rattle.mm_base.specs.PairRows.{Row}
 use Rattle.graph_base.specs.Edges.{Edge}
+use Rattle.graph_base.proofs.Cuts.{all_join, all_without, all_map}
 use Rattle.network_base.specs.declared.named_edges.Joined.{Joined}
-use Rattle.network_base.specs.NamedEdges.{Named, edge_of, edges_of, halves_of, AreNamed}
+use Rattle.network_base.specs.NamedEdges.{Named, edge_of, edges_of, halves_of, AreNamed, IsRising, IsRisingBelow}
 use Rattle.network_base.specs.Networks.{names, ends_of, without_edge}
 
 -- the ends that a look-up tells
@@ -80,14 +81,39 @@ absent_differ x (k ∷ edges) e = by_case (same x k.2) refl (absent_differ x edg
 pub absent_stay : (x : Elem) (edges : List Edge) → ends_of x edges ≡ None → without_edge x edges ≡ edges
 absent_stay x edges e = others_stay x edges (absent_differ x edges e)
 
+-- numbers that rise, with one more, and with one less
+pub rising_last : (rows : List Named) (r : Named) → IsRisingBelow r.1.number rows → IsRising (rows ++ r ∷ [])
+rising_last [] r h = (tt, tt)
+rising_last (s ∷ rows) r h = (all_join (λ (later : Named). s.1.number < later.1.number) rows (r ∷ []) h.rising.0 (h.below.0, tt), rising_last rows r (record { below = h.below.1; rising = h.rising.1 }))
+
+rising_without : (us : List Named) (r : Named) (vs : List Named) → IsRising (us ++ r ∷ vs) → IsRising (us ++ vs)
+rising_without [] r vs h = h.1
+rising_without (u ∷ us) r vs h = (all_without (λ (later : Named). u.1.number < later.1.number) us r vs h.0, rising_without us r vs h.1)
+
+all_higher : (m n : ℕ) → m ≤ n → (rows : List Named) → AllByRecursion (λ (row : Named). row.1.number < m) rows → AllByRecursion (λ (row : Named). row.1.number < n) rows
+all_higher m n l rows h = all_map (λ (row : Named). row.1.number < m) (λ (row : Named). row.1.number < n) (λ r k. omega arith) rows h
+
 -- one row put last
-pub pushed : (rows new_rows : List Named) (halves new_halves : List Row) (x : Elem) (row : Joined) → AreNamed rows halves → new_rows ≡ rows ++ (x, row) ∷ [] → new_halves ≡ halves ++ halves_of (x, row) → AreNamed new_rows new_halves
-pushed rows new_rows halves new_halves x row h rows_are halves_are = record {
+pub pushed : (rows new_rows : List Named) (halves new_halves : List Row) (x : Elem) (row : Joined) (next later : Option ℕ) → AreNamed rows halves next → new_rows ≡ rows ++ (x, row) ∷ [] → new_halves ≡ halves ++ halves_of (x, row) → ((n : ℕ) → next ≡ Some n → row.number ≡ n)
+    → ((n : ℕ) → later ≡ Some n → (m : ℕ) × (next ≡ Some m) × (n ≡ m + 1)) → AreNamed new_rows new_halves later
+pushed rows new_rows halves new_halves x row next later h rows_are halves_are own after = record {
   halves_equal = halves_are ∙ (λ i. h.halves_equal i ++ sym (append-nil (halves_of (x, row))) i) ∙ sym (flat_map-append halves_of rows ((x, row) ∷ [])) ∙ ap (flat_map halves_of) (sym rows_are);
+  rising = λ n e. subst (IsRisingBelow n) (sym rows_are) (by_number n (after n e));
 }
+  where
+    by_number : (n : ℕ) → (m : ℕ) × (next ≡ Some m) × (n ≡ m + 1) → IsRisingBelow n (rows ++ (x, row) ∷ [])
+    by_number n a =
+        let number = own a.0 a.1 in
+        let old = h.rising a.0 a.1 in
+        let above : a.0 ≤ n = omega (arith, a.2) in
+        let under : row.number < n = omega (arith, number, a.2) in
+        record {
+          below = all_join (λ (r : Named). r.1.number < n) rows ((x, row) ∷ []) (all_higher a.0 n above rows old.below) (under, tt);
+          rising = rising_last rows (x, row) (subst (λ k. IsRisingBelow k rows) (sym number) old);
+        }
 
 -- a row that is found and taken out
-module _ (x : Elem) (rows : List Named) (row : Joined) (e : lookup (same x) rows ≡ Some row) (distinct : HasDistinctKeys rows) (halves : List Row) (h : AreNamed rows halves) where
+module _ (x : Elem) (rows : List Named) (row : Joined) (e : lookup (same x) rows ≡ Some row) (distinct : HasDistinctKeys rows) (halves : List Row) (next : Option ℕ) (h : AreNamed rows halves next) where
   cut : (us : List Named) × (vs : List Named) × (rows ≡ us ++ (x, row) ∷ vs) × NonePasses (same x) us
   cut = row_cut x rows row e
 
@@ -100,9 +126,12 @@ module _ (x : Elem) (rows : List Named) (row : Joined) (e : lookup (same x) rows
   removed_at_cut : remove_entry (same x) rows ≡ cut.0 ++ cut.1
   removed_at_cut = ap (remove_entry (same x)) cut.2 ∙ remove_at (same x) cut.0 (x, row) cut.1 cut.3 (same_equiv.refl x)
 
-  pub removed : (new_rows : List Named) (new_halves : List Row) → new_rows ≡ remove_entry (same x) rows → ((us vs : List Row) → halves ≡ us ++ (halves_of (x, row) ++ vs) → new_halves ≡ us ++ vs) → AreNamed new_rows new_halves
+  pub removed : (new_rows : List Named) (new_halves : List Row) → new_rows ≡ remove_entry (same x) rows → ((us vs : List Row) → halves ≡ us ++ (halves_of (x, row) ++ vs) → new_halves ≡ us ++ vs) → AreNamed new_rows new_halves next
   removed new_rows new_halves rows_are less = record {
     halves_equal = less (flat_map halves_of cut.0) (flat_map halves_of cut.1) halves_cut ∙ sym (flat_map-append halves_of cut.0 cut.1) ∙ ap (flat_map halves_of) (sym removed_at_cut ∙ sym rows_are);
+    rising = λ n e.
+        let old = subst (IsRisingBelow n) cut.2 (h.rising n e) in
+        subst (IsRisingBelow n) (sym removed_at_cut ∙ sym rows_are) (record { below = all_without (λ (r : Named). r.1.number < n) cut.0 (x, row) cut.1 old.below; rising = rising_without cut.0 (x, row) cut.1 old.rising });
   }
 
   edges_at : edges_of rows ≡ edges_of cut.0 ++ (row.from, row.to, x) ∷ edges_of cut.1

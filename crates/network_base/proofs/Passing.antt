@@ -1,6 +1,9 @@
 -- A walk along a list that counts what passes a test.
-use Rattle.std.proofs.Common.{◌≡◌, ◌≤◌, ◌+◌, ℕ, zero, suc, Bool, true, false, cond, List, [], ◌∷◌, length, drop, Option, Some, None, refl, sym, ap, ◌∙◌, arith, slice_get, add-one}
+use Rattle.std.proofs.Common.{◌≡◌, ◌≤◌, ◌+◌, ◌-◌, ℕ, zero, suc, Bool, true, false, cond, List, [], ◌∷◌, length, drop, Option, Some, None, refl, sym, ap, ◌∙◌, arith, slice_get, add-one}
 use Rattle.std.specs.List.{filter}
+
+pub counted_down : (m n : ℕ) → (m ≡ 0 → ⊥) → n ≡ m - 1 → n + 1 ≡ m
+counted_down m n some less = omega arith
 
 module _ {X : Type 0} where
   drop_at : (xs : List X) (n : ℕ) (x : X) → slice_get xs n ≡ Some x → drop n xs ≡ x ∷ drop (suc n) xs

@@ -1,5 +1,5 @@
 -- What a set shows, by what it is read from.
-use Rattle.std.proofs.Common.{◌≡◌, ℕ, Bool, true, false, cond, List, map, Option, Some, None, sym, ap, ◌∙◌, slice_get}
+use Rattle.std.proofs.Common.{◌≡◌, ℕ, Bool, true, false, cond, List, map, Option, Some, None, ap, ◌∙◌, slice_get}
 use Rattle.std.specs.Option.{option_map}
 use Rattle.std.specs.List.{filter}
 use Rattle.std.specs.Map.{keys_of}
@@ -11,8 +11,7 @@ use Rattle.graph_base.proofs.GraphLemmas.{nth_key}
 use Rattle.network_base.specs.declared.net_steps.NetStep.{NetStep}
 use Rattle.network_base.specs.declared.net_steps.NetItem.TheVariants.{One}
 use Rattle.network_base.specs.Held.{network}
-use Rattle.network_base.specs.Shown.{gives_nodes, shown, passes, item, centre, around}
-use Rattle.network_base.proofs.Centres.{all_around}
+use Rattle.network_base.specs.Shown.{gives_nodes, shown, passes, item}
 
 module _ (nodes : List (Elem × Degrees)) (edges : List Edge) (directed loops : Bool) (step : NetStep) (i : ℕ) where
   -- a set of all nodes
@@ -27,8 +26,7 @@ module _ (nodes : List (Elem × Degrees)) (edges : List Edge) (directed loops : 
     no_node_shown e = shown_nodes ∙ ap (λ o. option_map One (option_map (λ (r : Elem × Degrees). r.0) o)) e
 
   -- a set that is read from edges
-  pub edge_shown : gives_nodes step ≡ false → (o : Option Edge) → slice_get (filter (passes directed edges step) (around (centre step) edges)) i ≡ o → slice_get (shown step (network nodes edges directed loops)) i ≡ option_map (item step) o
+  pub edge_shown : gives_nodes step ≡ false → (o : Option Edge) → slice_get (filter (passes directed edges step) edges) i ≡ o → slice_get (shown step (network nodes edges directed loops)) i ≡ option_map (item step) o
   edge_shown f o e =
       ap (λ b. slice_get (cond b (map One (keys_of nodes)) (map (item step) (filter (passes directed edges step) edges))) i) f
-      ∙ ap (λ es. slice_get (map (item step) es) i) (sym (all_around directed edges step))
-      ∙ slice_get-map (item step) (filter (passes directed edges step) (around (centre step) edges)) i ∙ ap (option_map (item step)) e
+      ∙ slice_get-map (item step) (filter (passes directed edges step) edges) i ∙ ap (option_map (item step)) e

@@ -1,5 +1,5 @@
 -- The items of a set with what shows them.
-use Rattle.std.proofs.Common.{◌≡◌, Bool, true, false, cond, List, [], ◌∷◌, map, Option, Some, None, refl, sym, ap, ◌∙◌, slice_get}
+use Rattle.std.proofs.Common.{◌≡◌, Bool, true, false, cond, List, [], ◌∷◌, map, Option, Some, None, refl, ap, ◌∙◌, slice_get}
 use Rattle.std.specs.Option.{option_map}
 use Rattle.std.specs.List.{filter}
 use Rattle.std.specs.Map.{lookup, keys_of}
@@ -13,8 +13,7 @@ use Rattle.network_base.specs.declared.net_steps.NetStep.{NetStep}
 use Rattle.network_base.specs.declared.net_steps.NetItem.{NetItem}
 use Rattle.network_base.specs.declared.net_steps.NetItem.TheVariants.{One}
 use Rattle.network_base.specs.Held.{network}
-use Rattle.network_base.specs.Shown.{gives_nodes, spots, row_after, edge_after, passes, item, centre, around}
-use Rattle.network_base.proofs.Centres.{all_around}
+use Rattle.network_base.specs.Shown.{gives_nodes, spots, row_after, edge_after, passes, item}
 use Rattle.network_base.proofs.NextPassing.{after_here}
 
 abbrev pub Spot : Type 0
@@ -74,11 +73,8 @@ module _ (nodes : List (Elem × Degrees)) (edges : List Edge) (directed loops : 
     edges_are : spots step (network nodes edges directed loops) ≡ map (of_edge step) (filter (passes directed edges step) edges)
     edges_are = ap (λ b. cond b (map of_node (keys_of nodes)) (map (of_edge step) (filter (passes directed edges step) edges))) f
 
-    pub first_edge_spot : (a : Option Elem) → a ≡ centre step → (o : Option Edge) → slice_get (filter (passes directed edges step) (around a edges)) 0 ≡ o → slice_get (spots step (network nodes edges directed loops)) 0 ≡ option_map (of_edge step) o
-    first_edge_spot a c o e =
-        ap (λ rows. slice_get rows 0) edges_are ∙ ap (λ es. slice_get (map (of_edge step) es) 0) (sym (all_around directed edges step))
-        ∙ slice_get-map (of_edge step) (filter (passes directed edges step) (around (centre step) edges)) 0
-        ∙ ap (option_map (of_edge step)) (ap (λ b. slice_get (filter (passes directed edges step) (around b edges)) 0) (sym c) ∙ e)
+    pub first_edge_spot : (o : Option Edge) → slice_get (filter (passes directed edges step) edges) 0 ≡ o → slice_get (spots step (network nodes edges directed loops)) 0 ≡ option_map (of_edge step) o
+    first_edge_spot o e = ap (λ rows. slice_get rows 0) edges_are ∙ slice_get-map (of_edge step) (filter (passes directed edges step) edges) 0 ∙ ap (option_map (of_edge step)) e
 
     pub next_edge_spot : (x : Elem) (o : Option Edge) → after_here directed edges step x ≡ o → row_after x (spots step (network nodes edges directed loops)) ≡ option_map (of_edge step) o
     next_edge_spot x o e = ap (row_after x) edges_are ∙ after_edge step x (filter (passes directed edges step) edges) ∙ ap (option_map (of_edge step)) e

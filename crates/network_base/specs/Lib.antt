@@ -4,4 +4,5 @@ pub mod Networks
 pub mod Faults
 pub mod Held
 pub mod Shown
+pub mod Beside
 pub mod ShownLaws

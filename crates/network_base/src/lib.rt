@@ -2,6 +2,7 @@
 //! of its own, so any number of edges join the same nodes.
 #![tactic(auto)]
 
+mod beside;
 mod faults;
 mod named_edges;
 mod net_steps;

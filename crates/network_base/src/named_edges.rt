@@ -1,4 +1,4 @@
-ghost use Rattle.std.specs.Prelude.{◌≡◌, ℕ, ◌+◌, [], ◌∷◌, ◌++◌, length, slice_get, cond, Some, None, OnOk, OnErr};
+ghost use Rattle.std.specs.Prelude.{◌≡◌, ◌<◌, ◌≤◌, ℕ, ◌+◌, [], ◌∷◌, ◌++◌, length, slice_get, cond, Some, None, OnOk, OnErr, IfSome, MatchBool};
 ghost use Rattle.std.specs.List.{IsDistinct};
 ghost use Rattle.elem.specs.declared.elements.Elem.{Elem as Key};
 ghost use Rattle.elem.specs.Elements.{same};
@@ -15,22 +15,25 @@ use mm_base::{FreeFlatPairs, PairId};
 use std::alloc::Global;
 use std::marker::Model;
 
-/// The ends of an edge, and the ids of its halves. A loop has one half, its first.
+/// The ends of an edge, the ids of its halves, and its number. A loop has one half, its first.
 #[derive(Clone, Copy)]
 pub struct Joined {
     pub from: Elem,
     pub to: Elem,
     pub first: PairId,
     pub second: PairId,
+    pub number: usize,
 }
 
 /// Edges that are elements of their own, in the order of their coming. Its calls are not counted.
 ///
-/// `rows` finds an edge, and `halves` the edges at a node.
+/// `rows` finds an edge, and `halves` the edges at a node. `next` is the number of the next edge, as long as there are
+/// numbers; until then they rise along the rows.
 #[derive(Drop)]
 pub struct NamedEdges {
     rows: FreeLinkedMap<Joined>,
     halves: FreeFlatPairs,
+    next: Option<usize>,
 }
 
 impl Model for NamedEdges {
@@ -42,7 +45,7 @@ impl Model for NamedEdges {
 
     ghost view = { λ m. edges_of m.rows };
 
-    ghost invariant = { λ m. AreNamed m.rows m.halves };
+    ghost invariant = { λ m. AreNamed m.rows m.halves m.next };
 }
 
 /// The id of the half that an edge has at a node, which is one of its ends.
@@ -53,6 +56,32 @@ fn half_at(a: &Elem, row: &Joined) -> PairId
         row.first
     } else {
         row.second
+    }
+}
+
+/// The number of the next edge, or any where numbers have run out.
+fn number_of(next: &Option<usize>) -> usize
+    ensures { (n : ℕ) → next.now ≡ Some n → result ≡ n }
+{
+    match next {
+        None => 0,
+        Some(number) => *number,
+    }
+}
+
+/// The number after that of the next edge, as long as there are numbers.
+fn number_after(next: &Option<usize>) -> Option<usize>
+    ensures { (n : ℕ) → result ≡ Some n → (m : ℕ) × (next.now ≡ Some m) × (n ≡ m + 1) }
+{
+    match next {
+        None => None,
+        Some(number) => {
+            if *number == usize::MAX {
+                None
+            } else {
+                Some(*number + 1)
+            }
+        }
     }
 }
 
@@ -87,6 +116,7 @@ impl NamedEdges {
         NamedEdges {
             rows: FreeLinkedMap::new(alloc),
             halves: FreeFlatPairs::new(alloc),
+            next: Some(0),
         }
     }
 
@@ -134,6 +164,21 @@ impl NamedEdges {
         Some(whole_edge(&self.rows, &next))
     }
 
+    /// Whether an edge comes before another, where their numbers tell.
+    pub fn comes_before(&self, e: &(Elem, Elem, Elem), f: &(Elem, Elem, Elem)) -> Option<bool>
+        requires first { (i : ℕ) × (slice_get self.now i ≡ Some e.now) }
+        requires second { (j : ℕ) × (slice_get self.now j ≡ Some f.now) }
+        ensures { IfSome result (λ before. (i j : ℕ) → slice_get self.now i ≡ Some e.now → slice_get self.now j ≡ Some f.now → MatchBool before (i < j) (j ≤ i)) }
+    {
+        let _len = self.rows.len();
+        let first = self.rows.probe(e.2).unwrap();
+        let second = self.rows.probe(f.2).unwrap();
+        match self.next {
+            None => None,
+            Some(_number) => Some(first.number < second.number),
+        }
+    }
+
     /// The first edge at a node.
     pub fn first_at(&self, a: &Elem) -> Option<(Elem, Elem, Elem)>
         ensures { result ≡ slice_get (incident a.now self.now) 0 }
@@ -169,11 +214,13 @@ impl NamedEdges {
             to: *b,
             first,
             second,
+            number: number_of(&self.next),
         };
         if self.rows.insert(*x, row).is_err() {
             drop_halves(&mut self.halves, a, b, first, second, x);
             return Err(NoMemory);
         }
+        self.next = number_after(&self.next);
         Ok(())
     }
 

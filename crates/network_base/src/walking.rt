@@ -96,7 +96,7 @@ fn is_first(edges: &NamedEdges, directed: bool, e: &(Elem, Elem, Elem)) -> bool
 }
 
 /// Whether a node is an end of an edge.
-fn is_at(a: &Elem, e: &(Elem, Elem, Elem)) -> bool
+pub fn is_at(a: &Elem, e: &(Elem, Elem, Elem)) -> bool
     ensures { result ≡ is_at a.now e.now }
 {
     same(a, &e.0) || same(a, &e.1)

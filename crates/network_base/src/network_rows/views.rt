@@ -5,8 +5,9 @@ ghost use Rattle.network_base.specs.declared.net_steps.NetGone.{NetGone as Gone}
 ghost use Rattle.network_base.specs.Shown.{is_there, shown, spots, row_after};
 
 use super::NetworkRows;
-use crate::net_steps::{centre, edge_spot, gives_nodes, item, node_spot};
-use crate::walking::{next_passing, nth_passing};
+use crate::beside::nth_edge;
+use crate::net_steps::{edge_spot, gives_nodes, item, node_spot};
+use crate::walking::next_passing;
 use crate::{NetGone, NetItem, NetStep};
 use elem::{Elem, Steps};
 use std::sync::ledger::Ledger;
@@ -102,8 +103,7 @@ impl NetworkRows {
             let (a, _degrees) = self.nodes.row_at(i)?;
             return Some(NetItem::One(a));
         }
-        let around = centre(step);
-        let e = nth_passing(&self.edges, self.directed, step, &around, i)?;
+        let e = nth_edge(&self.edges, self.directed, step, i)?;
         Some(item(step, &e))
     }
 
@@ -115,8 +115,7 @@ impl NetworkRows {
             let a = self.nodes.first()?;
             return Some(node_spot(&a));
         }
-        let around = centre(step);
-        let e = nth_passing(&self.edges, self.directed, step, &around, 0)?;
+        let e = nth_edge(&self.edges, self.directed, step, 0)?;
         Some(edge_spot(step, &e))
     }
 

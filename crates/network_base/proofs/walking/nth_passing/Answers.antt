@@ -1,12 +1,9 @@
 use Rattle.std.specs.List.{filter}
-use Rattle.std.proofs.Common.{sym, ◌∙◌, ℕ, slice_get, arith, ◌+◌, ◌-◌, ◌≡◌, subst}
+use Rattle.std.proofs.Common.{sym, ◌∙◌, slice_get, ◌+◌, subst}
 use Rattle.network_base.specs.Shown.{around, passes}
-use Rattle.network_base.proofs.Passing.{IsWalking, walk_found, walk_passed, walk_counted}
+use Rattle.network_base.proofs.Passing.{IsWalking, counted_down, walk_found, walk_passed, walk_counted}
 use Rattle.network_base.proofs.walking.nth_passing.Goals as goal
 use Rattle.network_base.proofs.walking.nth_passing.Goals.{then-passes+else-left-eq0, else-passes}
-
-counted_down : (m n : ℕ) → (m ≡ 0 → ⊥) → n ≡ m - 1 → n + 1 ≡ m
-counted_down m n some less = omega arith
 
 pub returns-then-left-eq0 : goal.returns-then-left-eq0
 returns-then-left-eq0 c =

@@ -10,7 +10,7 @@ pub invariant_of-self : goal.invariant_of-self
 invariant_of-self c =
     let m = c.self.inside in
     let stay = c.remove.ensures.rows ∙ remove_none (same c.args.x.now) m.rows (sym c.remove.ensures.value ∙ c.in_err-row.was) in
-    subst (λ rs. AreNamed rs m.halves) (sym stay) c.self.invariant
+    subst (λ rs. AreNamed rs m.halves m.next) (sym stay) c.self.invariant
 
 pub returns-in_err-row-clause-ends : goal.returns-in_err-row-clause-ends
 returns-in_err-row-clause-ends c =
@@ -26,12 +26,12 @@ returns-in_err-row-clause-edges c =
 pub drop_halves-requires : goal.drop_halves-requires
 drop_halves-requires c =
     let m = c.self.inside in
-    its_halves c.args.x.now m.rows c.in_ok-row.row (sym c.remove.ensures.value ∙ c.in_ok-row.was) c.len-len.ensures.distinct m.halves c.self.invariant
+    its_halves c.args.x.now m.rows c.in_ok-row.row (sym c.remove.ensures.value ∙ c.in_ok-row.was) c.len-len.ensures.distinct m.halves m.next c.self.invariant
 
 pub invariant_of-self-2 : goal.invariant_of-self-2
 invariant_of-self-2 c =
     let m = c.self.inside in
-    removed c.args.x.now m.rows c.in_ok-row.row (sym c.remove.ensures.value ∙ c.in_ok-row.was) c.len-len.ensures.distinct m.halves c.self.invariant c.remove.new.self c.drop_halves.new.halves c.remove.ensures.rows c.drop_halves.ensures
+    removed c.args.x.now m.rows c.in_ok-row.row (sym c.remove.ensures.value ∙ c.in_ok-row.was) c.len-len.ensures.distinct m.halves m.next c.self.invariant c.remove.new.self c.drop_halves.new.halves c.remove.ensures.rows c.drop_halves.ensures
 
 pub returns-clause-ends : goal.returns-clause-ends
 returns-clause-ends c =
@@ -41,4 +41,4 @@ returns-clause-ends c =
 pub returns-clause-edges : goal.returns-clause-edges
 returns-clause-edges c =
     let m = c.self.inside in
-    ap edges_of c.remove.ensures.rows ∙ removed_edges c.args.x.now m.rows c.in_ok-row.row (sym c.remove.ensures.value ∙ c.in_ok-row.was) c.len-len.ensures.distinct m.halves c.self.invariant ∙ ap (without_edge c.args.x.now) c.self.view_is
+    ap edges_of c.remove.ensures.rows ∙ removed_edges c.args.x.now m.rows c.in_ok-row.row (sym c.remove.ensures.value ∙ c.in_ok-row.was) c.len-len.ensures.distinct m.halves m.next c.self.invariant ∙ ap (without_edge c.args.x.now) c.self.view_is

@@ -16,9 +16,9 @@ returns-then-gives_nodes c =
 pub returns-in_err-e : goal.returns-in_err-e
 returns-in_err-e c =
     let m = c.self.inside in
-    c.from_residual-in_err-e.ensures ∙ sym (first_edge_spot m.nodes m.edges m.directed m.loops c.args.step.now (sym c.gives_nodes.ensures ∙ c.if-gives_nodes.false) c.centre-around.result c.centre-around.ensures None (sym c.nth_passing.ensures ∙ c.in_err-e.was)) ∙ ap (λ x. slice_get (spots c.args.step.now x) 0) c.self.view_is
+    c.from_residual-in_err-e.ensures ∙ sym (first_edge_spot m.nodes m.edges m.directed m.loops c.args.step.now (sym c.gives_nodes.ensures ∙ c.if-gives_nodes.false) None (sym c.nth_edge.ensures ∙ c.in_err-e.was)) ∙ ap (λ x. slice_get (spots c.args.step.now x) 0) c.self.view_is
 
 pub returns : goal.returns
 returns c =
     let m = c.self.inside in
-    ap Some c.edge_spot.ensures ∙ sym (first_edge_spot m.nodes m.edges m.directed m.loops c.args.step.now (sym c.gives_nodes.ensures ∙ c.if-gives_nodes.false) c.centre-around.result c.centre-around.ensures (Some c.in_ok-e.e) (sym c.nth_passing.ensures ∙ c.in_ok-e.was)) ∙ ap (λ x. slice_get (spots c.args.step.now x) 0) c.self.view_is
+    ap Some c.edge_spot.ensures ∙ sym (first_edge_spot m.nodes m.edges m.directed m.loops c.args.step.now (sym c.gives_nodes.ensures ∙ c.if-gives_nodes.false) (Some c.in_ok-e.e) (sym c.nth_edge.ensures ∙ c.in_ok-e.was)) ∙ ap (λ x. slice_get (spots c.args.step.now x) 0) c.self.view_is
