@@ -2,7 +2,7 @@
 ghost use Rattle.std.specs.Prelude.{◌≡◌, ◌<◌};
 
 use crate::{NetFault, NetGone, NetItem, NetStep, NetworkRows, Side};
-use elem::{Elem, Steps};
+use elem::{Elem, Steps, same};
 use std::alloc::Global;
 use std::marker::Brand;
 use std::sync::ledger::{Blank, Ledger};
@@ -22,16 +22,37 @@ fn put<L: Ledger>(
     w.add_edge(Elem::Int(a), Elem::Int(b), Elem::Int(x), steps)
 }
 
-/// The number of an item that is one element, or the numbers of a pair as those of tens and ones, or -1 where there is no
-/// item, and -2 where the set is gone.
-fn told(shown: Result<Option<NetItem>, NetGone>) -> i64 {
-    match shown {
-        Err(_) => -2,
-        Ok(None) => -1,
-        Ok(Some(NetItem::One(Elem::Int(n)))) => n,
-        Ok(Some(NetItem::Pair(Elem::Int(1), Elem::Int(2)))) => 12,
-        Ok(Some(_)) => -3,
+/// The number that an element is.
+fn number(a: &Elem) -> i64 {
+    match a {
+        Elem::Int(n) => *n,
+        Elem::Text(_word) => -3,
     }
+}
+
+/// The number of an item that is one element, 12 for the pair of 1 and 2, and -3 for another pair.
+fn told(item: &NetItem) -> i64 {
+    match item {
+        NetItem::One(a) => number(a),
+        NetItem::Pair(a, b) => {
+            if same(a, &Elem::Int(1)) && same(b, &Elem::Int(2)) {
+                12
+            } else {
+                -3
+            }
+        }
+    }
+}
+
+/// What is told of an item of a set, -1 where there is none, and -2 where the set is gone.
+fn answer(shown: Result<Option<NetItem>, NetGone>) -> i64 {
+    let Ok(found) = shown else {
+        return -2;
+    };
+    let Some(item) = found else {
+        return -1;
+    };
+    told(&item)
 }
 
 /// The first three items of a set by number.
@@ -40,22 +61,32 @@ fn first_three<L: Ledger>(
     step: &NetStep,
     steps: &mut Steps<L>,
 ) -> (i64, i64, i64) {
-    let first = told(w.shown_at(step, 0, steps));
-    let second = told(w.shown_at(step, 1, steps));
-    (first, second, told(w.shown_at(step, 2, steps)))
+    let first = answer(w.shown_at(step, 0, steps));
+    let second = answer(w.shown_at(step, 1, steps));
+    (first, second, answer(w.shown_at(step, 2, steps)))
+}
+
+/// What is told of the item after another by a walk.
+fn after<L: Ledger>(w: &NetworkRows, step: &NetStep, spot: &Elem, steps: &mut Steps<L>) -> i64 {
+    let Ok(found) = w.next_shown(step, *spot, steps) else {
+        return -2;
+    };
+    let Some(row) = found else {
+        return -1;
+    };
+    told(&row.1)
 }
 
 /// The first two items of a set by a walk.
 fn walked<L: Ledger>(w: &NetworkRows, step: &NetStep, steps: &mut Steps<L>) -> (i64, i64) {
-    let Ok(Some((spot, first))) = w.first_shown(step, steps) else {
+    let Ok(found) = w.first_shown(step, steps) else {
+        return (-2, -2);
+    };
+    let Some(row) = found else {
         return (-1, -1);
     };
-    let second = match w.next_shown(step, spot, steps) {
-        Ok(Some((_spot, item))) => told(Ok(Some(item))),
-        Ok(None) => -1,
-        Err(_) => -2,
-    };
-    (told(Ok(Some(first))), second)
+    let second = after(w, step, &row.0, steps);
+    (told(&row.1), second)
 }
 
 /// Nodes 1 and 2 with the edges 11 and 12 from 1 to 2, in a network with directions and without loops.

@@ -48,7 +48,7 @@ impl NetworkRows {
     }
 
     /// The item after the one that a node or an edge shows, and what shows it. A walk along a set, from `first_shown` on,
-    /// goes once along the edges that it is read from.
+    /// goes once along the edges at its node, or for a set beside an edge or of all edges once along all.
     pub fn next_shown<L: Ledger>(
         &self,
         step: &NetStep,
