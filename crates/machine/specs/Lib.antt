@@ -33,3 +33,16 @@ pub mod Answering
 pub mod Copies
 pub mod Iterators
 pub mod Valid
+pub mod Parts
+pub mod Arguments
+pub mod StepArguments
+pub mod CallArguments
+pub mod State
+pub mod Outcomes
+pub mod Meanings
+pub mod Typing
+pub mod Following
+pub mod Calling
+pub mod Iterating
+pub mod Naming
+pub mod Lines

@@ -17,7 +17,6 @@ use Rattle.vocabulary.specs.declared.calls.OnSpanValue.TheVariants.{PutSpan, Put
 use Rattle.vocabulary.specs.declared.calls.OnOther.{OnOther}
 use Rattle.vocabulary.specs.declared.calls.OnOther.TheVariants.{ContainsAll, AddAll, RemoveAll, RetainAll, PutAll, Equals, AddSpans, RemoveSpans}
 use Rattle.vocabulary.specs.declared.calls.OnValues.{OnValues}
-use Rattle.vocabulary.specs.declared.calls.OnValues.TheVariants.{PutValues, ReplaceValues}
 use Rattle.vocabulary.specs.declared.calls.Call.{Call}
 use Rattle.vocabulary.specs.declared.calls.Call.TheVariants as call
 use Rattle.vocabulary.specs.declared.shapes.RowSort.TheVariants as rows

@@ -13,7 +13,6 @@ use Rattle.vocabulary.specs.declared.calls.OnValues.{OnValues}
 use Rattle.vocabulary.specs.declared.calls.OnValues.TheVariants.{PutValues, ReplaceValues}
 use Rattle.vocabulary.specs.declared.calls.Call.{Call}
 use Rattle.vocabulary.specs.declared.calls.Call.TheVariants as call
-use Rattle.vocabulary.specs.declared.shapes.RowSort.TheVariants as rows
 use Rattle.vocabulary.specs.declared.steps.Needs.{Needs}
 use Rattle.vocabulary.specs.declared.steps.Needs.TheVariants as needs
 
