@@ -66,7 +66,7 @@ next_of world it = unless_refused (passed_refusal world it) (passed_on it (ahead
 abbrev pub remove_refusal : World → Iterator → Option Refusal
 remove_refusal world it =
     first_refusal (if (flags_at world it.view).iterate then None else Some UnsupportedOperation)
-        (first_refusal (if it.given then None else Some IllegalState) (passed_refusal world it))
+    (first_refusal (if it.given then None else Some IllegalState) (passed_refusal world it))
 
 abbrev pub after_removal : World → World → Iterator → Iterator
 after_removal before after it =

@@ -1,4 +1,5 @@
 mod Bags
+mod BigCounts
 mod Bimaps
 mod Builders
 mod Graphs
@@ -24,3 +25,8 @@ mod Rows3
 mod Sets
 mod Sublists
 mod Tables
+mod Words1
+mod Words2
+mod Words3
+mod Words4
+mod Words5
