@@ -1,10 +1,7 @@
 -- Iterators: what one keeps, and what its three calls answer and leave.
--- the view, the change numbers of its bases that were seen, how many candidates were passed, and whether the last of them was
--- given and not removed
 use Rattle.std.specs.Cmp.Lexicographic.{pointwise}
 use Rattle.vocabulary.specs.declared.refusals.Refusal.TheVariants.{ConcurrentModification, NoSuchElement, UnsupportedOperation, IllegalState}
 use Rattle.std.specs.Prelude.{ℕ, ◌+◌, ◌-◌, Bool, true, false, not, nat_eq, if◌then◌else◌, List, [], ◌∷◌, map, drop, slice_get, Option, None, Some, is_some, Result, Ok, Err}
-use Prim.Native.Nat.{ℕ, ◌-◌}
 use Rattle.vocabulary.specs.declared.items.Item.{Item}
 use Rattle.vocabulary.specs.declared.refusals.Refusal.{Refusal}
 use Rattle.machine.specs.Answering.{unless_refused}
@@ -15,8 +12,9 @@ use Rattle.machine.specs.Edits.{an_edit, removing, world_after}
 use Rattle.machine.specs.Reading.{first_refusal}
 use Rattle.machine.specs.Sublists.{refreshed, sublists_on}
 use Rattle.machine.specs.Views.{View, base_under, bases_of, candidates, flags_at, root}
-use Rattle.vocabulary.specs.Orders.{before}
 
+-- the view, the change numbers of its bases that were seen, how many candidates were passed, and whether the last of them was
+-- given and not removed
 pub record Iterator : Type 0 where
   pub view : View
   pub seen : List ℕ

@@ -6,7 +6,6 @@ use Rattle.vocabulary.specs.declared.steps.Step.TheVariants.{Sub, Piece}
 use Rattle.vocabulary.specs.declared.sublists.Sublist.{Sublist}
 use Rattle.machine.specs.Bases.{Base}
 use Rattle.machine.specs.Views.{View, base, both, over}
-use Rattle.vocabulary.specs.Orders.{before}
 
 abbrev pub is_stale : Base → Sublist → Bool
 is_stale it s = not (nat_eq s.seen it.change)
