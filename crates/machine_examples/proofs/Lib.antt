@@ -4,6 +4,7 @@ mod Bimaps
 mod Builders
 mod Graphs
 mod Groups
+mod Handles
 mod Iterators
 mod Keys
 mod Multimaps

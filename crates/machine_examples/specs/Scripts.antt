@@ -20,7 +20,7 @@ use Rattle.vocabulary.specs.Kinds as kinds
 use Rattle.vocabulary.specs.Words as words
 use Rattle.machine.specs.Lines.{replies}
 use Rattle.machine.specs.Meanings.{typed_word}
-use Rattle.machine.specs.State.{empty}
+use Rattle.machine.specs.State.{State, empty}
 
 -- what is unfolded to compute a script
 unfoldable pub literally : ⊤
@@ -39,6 +39,14 @@ abbrev pub reply_in : List ℕ → Option (List ℕ)
 reply_in [] = None
 reply_in (b ∷ text) = Some (b ∷ text)
 
--- the lines, one after another from a state with nothing in it, have these replies
+-- the lines, one after another from a state, have these replies
+abbrev pub RunsFrom : State → List (String × String) → Type 0
+RunsFrom state script = replies state (map (λ (e : String × String). bytes e.0) script) ≡ map (λ (e : String × String). reply_in (bytes e.1)) script
+
+-- and from the state with nothing in it
 abbrev pub Runs : List (String × String) → Type 0
-Runs script = replies empty (map (λ (e : String × String). bytes e.0) script) ≡ map (λ (e : String × String). reply_in (bytes e.1)) script
+Runs script = RunsFrom empty script
+
+-- the state in which so many handles were taken
+abbrev pub with_handles : ℕ → State
+with_handles n = record { bases = []; names = []; handles = n }
