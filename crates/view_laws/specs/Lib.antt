@@ -1,0 +1,5 @@
+pub mod Spots
+pub mod Places
+pub mod JoinPlaces
+pub mod ViewPlaces
+pub mod PlaceLaws
