@@ -110,10 +110,10 @@ elements_stand size seen le xs = zipped-flat_map _ _ _ (λ x. element_stands siz
 
 -- ---- each family
 
-abbrev first_at : JoinStep → List Candidate → (Place → Option Found) → Place → Option Found
+abbrev pub first_at : JoinStep → List Candidate → (Place → Option Found) → Place → Option Found
 first_at word ds at q = option_map (found_if (λ item. stays word (shows ds item))) (at q)
 
-abbrev second_at : List Candidate → (Place → Option Found) → Place → Option Found
+abbrev pub second_at : List Candidate → (Place → Option Found) → Place → Option Found
 second_at cs bt q = option_map (found_if (λ item. not (shows cs item))) (bt q)
 
 abbrev one_at : JoinStep → List Candidate → List Candidate → Place → Option Found

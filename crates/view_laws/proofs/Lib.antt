@@ -6,3 +6,10 @@ pub mod StandLemmas
 pub mod JoinLemmas
 pub mod JoinStands
 pub mod ViewStands
+pub mod OptionLemmas
+pub mod WindowLemmas
+pub mod AskLemmas
+pub mod PartTable
+pub mod PickLemmas
+pub mod LineLemmas
+pub mod JoinLines

@@ -3,3 +3,6 @@ pub mod Places
 pub mod JoinPlaces
 pub mod ViewPlaces
 pub mod PlaceLaws
+pub mod Lanes
+pub mod Narrowing
+pub mod LineLaws

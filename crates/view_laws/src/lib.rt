@@ -5,8 +5,14 @@
 //! contract of a function that does nothing.
 #![tactic(auto)]
 
+mod lanes;
 mod laws;
+mod line_laws;
+mod narrowing;
 mod places;
 
+pub use lanes::{GroupOrder, Lane, PartAsk, Pick, Run, all, meets, takes};
 pub use laws::{as_many_places, labels, leaves_in_view};
+pub use line_laws::{found_in_lane, line_hidden, line_joined, line_over, whole_line};
+pub use narrowing::{flipped, narrow, source_of};
 pub use places::{Found, Place, RowSpot, same_spot, shifted, unshifted};
