@@ -13,3 +13,5 @@ pub mod PartTable
 pub mod PickLemmas
 pub mod LineLemmas
 pub mod JoinLines
+pub mod LookLemmas
+pub mod TestLemmas

@@ -21,6 +21,18 @@ use Rattle.view_laws.specs.declared.lanes.Pick.TheVariants.{Each}
 use Rattle.view_laws.specs.Lanes.{takes}
 use Rattle.view_laws.specs.Narrowing.{asked_by, is_cell, is_entry, lacks_key, other, source_of, tells}
 use Rattle.view_laws.proofs.ListLemmas.{and-true}
+use Rattle.std.proofs.Common.{Bool, false, not, Some, ap, sym, ◌∙◌}
+use Rattle.std.proofs.lemmas.Option.{same_Some}
+use Rattle.elem.specs.ElementLaws.{same-Decides}
+use Rattle.fn_lang.specs.Meaning.{pred_holds, pair_holds}
+use Rattle.vocabulary.specs.declared.step_table.Family.TheVariants.{Hidden}
+use Rattle.vocabulary.specs.declared.steps.FilterStep.TheVariants.{Filter, FilterKeys, FilterValues}
+use Rattle.view_laws.specs.declared.lanes.Lane.{Lane}
+use Rattle.view_laws.specs.declared.lanes.PartAsk.{PartAsk}
+use Rattle.view_laws.specs.declared.lanes.PartAsk.TheVariants.{Any, Is, Within, Nothing}
+use Rattle.view_laws.specs.Lanes.{meets}
+use Rattle.view_laws.specs.LookUps.{decided, pair_test_of, test_of}
+use Rattle.view_laws.proofs.ListLemmas.{both_true}
 
 -- ---- parts of items
 
@@ -208,3 +220,41 @@ group_part (step.Plain word) First k n = refl
 group_part (step.Plain word) Second k n = refl
 group_part it First k n = refl
 group_part it Second k n = refl
+
+-- what is asked for and decides a test, is what is tested
+tested : (p : Elem → Bool) (ask : PartAsk) (x : Elem) (b : Bool) → test_of p ask ≡ Some b → meets ask x ≡ true → p x ≡ b
+tested p (Is y) x b e m = ap p (sym ((same-Decides y x).0 m)) ∙ same_Some (p y) b e
+tested p Any x b e m = absurd (cc)
+tested p (Within order w) x b e m = absurd (cc)
+tested p Nothing x b e m = absurd (cc)
+
+pair_tested : (q : Elem → Elem → Bool) (first second : PartAsk) (k v : Elem) (b : Bool) → pair_test_of q first second ≡ Some b → meets first k ≡ true → meets second v ≡ true → q k v ≡ b
+pair_tested q (Is x) (Is y) k v b e m n = (λ i. q (sym ((same-Decides x k).0 m) i) (sym ((same-Decides y v).0 n) i)) ∙ same_Some (q x y) b e
+pair_tested q (Is x) Any k v b e m n = absurd (cc)
+pair_tested q (Is x) (Within order w) k v b e m n = absurd (cc)
+pair_tested q (Is x) Nothing k v b e m n = absurd (cc)
+pair_tested q Any second k v b e m n = absurd (cc)
+pair_tested q (Within order w) second k v b e m n = absurd (cc)
+pair_tested q Nothing second k v b e m n = absurd (cc)
+
+-- a step that hides passes what is taken as is decided
+pub decided_passes : (it : Step) (lane : Lane) (item : Item) (b : Bool) → family_of it ≡ Hidden → is_cell item ≡ false → decided it lane ≡ Some b → takes lane item ≡ true → passes it item ≡ b
+decided_passes (step.Filter Filter p) lane item b is plain tells taken =
+    ap (pred_holds p) (value_second item (ap not plain)) ∙ tested (pred_holds p) lane.second (second_of item) b tells (both_true (meets lane.first (key_of item)) (meets lane.second (second_of item)) taken).1
+decided_passes (step.Filter FilterKeys p) lane item b is plain tells taken = tested (pred_holds p) lane.first (key_of item) b tells (both_true (meets lane.first (key_of item)) (meets lane.second (second_of item)) taken).0
+decided_passes (step.Filter FilterValues p) lane item b is plain tells taken =
+    ap (pred_holds p) (value_second item (ap not plain)) ∙ tested (pred_holds p) lane.second (second_of item) b tells (both_true (meets lane.first (key_of item)) (meets lane.second (second_of item)) taken).1
+decided_passes (step.FilterPairs q) lane item b is plain tells taken =
+    let parts = both_true (meets lane.first (key_of item)) (meets lane.second (second_of item)) taken in
+    ap (pair_holds q (key_of item)) (value_second item (ap not plain)) ∙ pair_tested (pair_holds q) lane.first lane.second (key_of item) (second_of item) b tells parts.0 parts.1
+decided_passes (step.Plain Reverse) lane item b is plain tells taken = absurd (cc)
+decided_passes (step.Plain KeySet) lane item b is plain tells taken = absurd (cc)
+decided_passes (step.Plain Values) lane item b is plain tells taken = absurd (cc)
+decided_passes (step.Plain EntrySet) lane item b is plain tells taken = absurd (cc)
+decided_passes (step.Plain Keys) lane item b is plain tells taken = absurd (cc)
+decided_passes (step.Plain Descending) lane item b is plain tells taken = absurd (cc)
+decided_passes (step.Plain Inverse) lane item b is plain tells taken = absurd (cc)
+decided_passes (step.Plain Transpose) lane item b is plain tells taken = absurd (cc)
+decided_passes (step.Plain ForMap) lane item b is plain tells taken = absurd (cc)
+decided_passes (step.Plain Unmodifiable) lane item b is plain tells taken = absurd (cc)
+decided_passes it lane item b is plain tells taken = absurd (cc)

@@ -6,3 +6,4 @@ pub mod PlaceLaws
 pub mod Lanes
 pub mod Narrowing
 pub mod LineLaws
+pub mod LookUps

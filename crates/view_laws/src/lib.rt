@@ -8,11 +8,13 @@
 mod lanes;
 mod laws;
 mod line_laws;
+mod look_laws;
 mod narrowing;
 mod places;
 
 pub use lanes::{GroupOrder, Lane, PartAsk, Pick, Run, all, meets, takes};
 pub use laws::{as_many_places, labels, leaves_in_view};
 pub use line_laws::{found_in_lane, line_hidden, line_joined, line_over, whole_line};
+pub use look_laws::{shows_both, shows_first, shows_hidden, shows_over, shows_row};
 pub use narrowing::{flipped, narrow, source_of};
 pub use places::{Found, Place, RowSpot, same_spot, shifted, unshifted};
