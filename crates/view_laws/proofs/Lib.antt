@@ -15,3 +15,6 @@ pub mod LineLemmas
 pub mod JoinLines
 pub mod LookLemmas
 pub mod TestLemmas
+pub mod RowLemmas
+pub mod LiftTable
+pub mod LiftLemmas

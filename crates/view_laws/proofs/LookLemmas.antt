@@ -88,9 +88,9 @@ told_takes : (it : Step) (lane start : Lane) (cs : List Candidate) → TellsEach
 told_takes it lane start cs told =
     each-if (λ (c : Candidate) below. takes below c.item ≡ (takes start c.item && takes lane (item_of it c.item))) (asks_moved (source_of it First) (source_of it Second) lane start) cs
     (all-as _ _
-     (λ (c : Candidate) h.
-         asks_takes (source_of it First) (source_of it Second) lane start c.item (item_of it c.item) (λ asked. part_told it First c.item (h First asked)) (λ asked. part_told it Second c.item (h Second asked)))
-     cs told)
+    (λ (c : Candidate) h.
+    asks_takes (source_of it First) (source_of it Second) lane start c.item (item_of it c.item) (λ asked. part_told it First c.item (h First asked)) (λ asked. part_told it Second c.item (h Second asked)))
+    cs told)
 
 -- ---- each family
 
@@ -102,8 +102,8 @@ shows_changed : (it : Step) (lane : Lane) (cs : List Candidate) → TellsEach it
 shows_changed it lane cs told =
     if_as _ (ShowsBelow lane (changed (item_of it) cs) cs) (asks_moved (source_of it First) (source_of it Second) lane (asking Any Any)) (told_takes it lane (asking Any Any) cs told)
     (λ below h.
-        any-map (λ (c : Candidate). c.seen && takes lane c.item) (with_item (item_of it)) cs
-        ∙ any-all (λ (c : Candidate). c.seen && takes lane (item_of it c.item)) (λ (c : Candidate). c.seen && takes below c.item) cs (all-as _ _ (λ (c : Candidate) e. ap (λ b. c.seen && b) (sym e)) cs h))
+    any-map (λ (c : Candidate). c.seen && takes lane c.item) (with_item (item_of it)) cs
+    ∙ any-all (λ (c : Candidate). c.seen && takes lane (item_of it c.item)) (λ (c : Candidate). c.seen && takes below c.item) cs (all-as _ _ (λ (c : Candidate) e. ap (λ b. c.seen && b) (sym e)) cs h))
 
 cut_one : (s t m : Bool) → ((s && m) && t) ≡ (s && (t && m))
 cut_one true true m = and-true m
@@ -115,10 +115,10 @@ shows_cut : (it : Step) (lane : Lane) (cs : List Candidate) → family_of it ≡
 shows_cut it lane cs is told =
     if_as _ (ShowsBelow lane (changed (item_of it) (cut (passes it) cs)) cs) (asks_moved (source_of it First) (source_of it Second) lane (asked_by it)) (told_takes it lane (asked_by it) cs told)
     (λ below h.
-        any-map (λ (c : Candidate). c.seen && takes lane c.item) (with_item (item_of it)) (cut (passes it) cs)
-        ∙ any-filter (λ (c : Candidate). c.seen && takes lane (item_of it c.item)) (λ (c : Candidate). passes it c.item) cs
-        ∙ any-all (λ (c : Candidate). (c.seen && takes lane (item_of it c.item)) && passes it c.item) (λ (c : Candidate). c.seen && takes below c.item) cs
-          (all-as _ _ (λ (c : Candidate) e. cut_one c.seen (passes it c.item) (takes lane (item_of it c.item)) ∙ ap (λ b. c.seen && (b && takes lane (item_of it c.item))) (asked_passes it c.item is) ∙ ap (λ b. c.seen && b) (sym e)) cs h))
+    any-map (λ (c : Candidate). c.seen && takes lane c.item) (with_item (item_of it)) (cut (passes it) cs)
+    ∙ any-filter (λ (c : Candidate). c.seen && takes lane (item_of it c.item)) (λ (c : Candidate). passes it c.item) cs
+    ∙ any-all (λ (c : Candidate). (c.seen && takes lane (item_of it c.item)) && passes it c.item) (λ (c : Candidate). c.seen && takes below c.item) cs
+    (all-as _ _ (λ (c : Candidate) e. cut_one c.seen (passes it c.item) (takes lane (item_of it c.item)) ∙ ap (λ b. c.seen && (b && takes lane (item_of it c.item))) (asked_passes it c.item is) ∙ ap (λ b. c.seen && b) (sym e)) cs h))
 
 -- ---- groups
 
@@ -159,14 +159,14 @@ shows_grouped : (it : Step) (lane : Lane) (order : KeyOrder) (cs : List Candidat
 shows_grouped it lane order cs covers =
     if_as _ (ShowsBelow lane (grouped (side_of it) (group_item it) order cs) cs) (asks_moved (Some (side_of it)) (Some (side_of it)) lane (asking Any Any))
     (each-if (λ (c : Candidate) below. takes below c.item ≡ (takes (asking Any Any) c.item && takes lane (One (part_of (side_of it) c.item)))) (asks_moved (Some (side_of it)) (Some (side_of it)) lane (asking Any Any)) cs
-     (all-as _ _ (λ (c : Candidate) h. asks_takes (Some (side_of it)) (Some (side_of it)) lane (asking Any Any) c.item (One (part_of (side_of it) c.item)) (λ asked. refl) (λ asked. refl)) cs covers))
+    (all-as _ _ (λ (c : Candidate) h. asks_takes (Some (side_of it)) (Some (side_of it)) lane (asking Any Any) c.item (One (part_of (side_of it) c.item)) (λ asked. refl) (λ asked. refl)) cs covers))
     (λ below h.
-        any-map (λ (c : Candidate). c.seen && takes lane c.item) (group (side_of it) (group_item it) cs) (keys_in (side_of it) order cs)
-        ∙ any-same _ _ (keys_in (side_of it) order cs) (group_shows it lane cs)
-        ∙ any-exchange (λ k (c : Candidate). takes lane (One k) && (c.seen && same k (part_of (side_of it) c.item))) (keys_in (side_of it) order cs) cs
-        ∙ any-all _ (λ (c : Candidate). c.seen && takes lane (One (part_of (side_of it) c.item))) cs
-          (all-as _ _ (λ (c : Candidate) among. key_shows lane c.seen (part_of (side_of it) c.item) (keys_in (side_of it) order cs) among) cs covers)
-        ∙ any-all _ (λ (c : Candidate). c.seen && takes below c.item) cs (all-as _ _ (λ (c : Candidate) e. ap (λ b. c.seen && b) (sym e)) cs h))
+    any-map (λ (c : Candidate). c.seen && takes lane c.item) (group (side_of it) (group_item it) cs) (keys_in (side_of it) order cs)
+    ∙ any-same _ _ (keys_in (side_of it) order cs) (group_shows it lane cs)
+    ∙ any-exchange (λ k (c : Candidate). takes lane (One k) && (c.seen && same k (part_of (side_of it) c.item))) (keys_in (side_of it) order cs) cs
+    ∙ any-all _ (λ (c : Candidate). c.seen && takes lane (One (part_of (side_of it) c.item))) cs
+    (all-as _ _ (λ (c : Candidate) among. key_shows lane c.seen (part_of (side_of it) c.item) (keys_in (side_of it) order cs) among) cs covers)
+    ∙ any-all _ (λ (c : Candidate). c.seen && takes below c.item) cs (all-as _ _ (λ (c : Candidate) e. ap (λ b. c.seen && b) (sym e)) cs h))
 
 look_step : (of : Family) (it : Step) → family_of it ≡ of → (lane : Lane) (order : KeyOrder) (cs : List Candidate) → TellsEach it lane cs
     → AllByRecursion (λ (c : Candidate). is_among (keys_in (side_of it) order cs) (part_of (side_of it) c.item) ≡ true) cs → IfSome (look_in of it lane) (ShowsBelow lane (in_family of it order cs) cs)

@@ -47,7 +47,7 @@ hidden_shows : (test : Item → Bool) (b : Bool) (lane : Lane) (cs : List Candid
 hidden_shows test b lane cs a =
     any-map (λ (c : Candidate). c.seen && takes lane c.item) (seen_if test) cs
     ∙ any-and-all b (λ (c : Candidate). c.seen && takes lane c.item) (λ (c : Candidate). (c.seen && test c.item) && takes lane c.item) cs
-      (all-as _ _ (λ (c : Candidate) h. hidden_one c.seen (test c.item) (takes lane c.item) b h) cs a)
+    (all-as _ _ (λ (c : Candidate) h. hidden_one c.seen (test c.item) (takes lane c.item) b h) cs a)
 
 pub shows-hidden : (world : World) (it : Step) (v : View) (lane : Lane) (b : Bool) → family_of it ≡ family.Hidden → AllByRecursion (λ (c : Candidate). is_cell c.item ≡ false) (candidates world v) → decided it lane ≡ Some b
     → shows_in lane (candidates world (over it v)) ≡ (b && shows_in lane (candidates world v))
@@ -92,7 +92,7 @@ hidden_element : (test : Bool → Bool) (x : Elem) (cs ds : List Candidate) → 
 hidden_element test x cs ds one two =
     hidden_shows (λ item. test (shows ds item)) (test (shows_in (of_element x) ds)) (of_element x) cs
     (all-as (λ (c : Candidate). is_one c.item ≡ true) (λ (c : Candidate). takes (of_element x) c.item ≡ true → test (shows ds c.item) ≡ test (shows_in (of_element x) ds))
-     (λ (c : Candidate) h taken. ap (λ item. test (shows ds item)) (element_is x c.item h taken) ∙ ap test (element_shown x ds two)) cs one)
+    (λ (c : Candidate) h taken. ap (λ item. test (shows ds item)) (element_is x c.item h taken) ∙ ap test (element_shown x ds two)) cs one)
 
 pub shows-first : (world : World) (word : JoinStep) (v u : View) (x : Elem) → join_family word ≡ join.Hidden → AreElements (candidates world v) → AreElements (candidates world u)
     → shows_in (of_element x) (candidates world (both word v u)) ≡ (stays word (shows_in (of_element x) (candidates world u)) && shows_in (of_element x) (candidates world v))
@@ -113,8 +113,8 @@ pub shows-both : (world : World) (word : JoinStep) (v u : View) (x : Elem) → j
 shows-both world word v u x is one two =
     subst
     (λ of.
-        shows_in (of_element x) (in_join_family of word (candidates world v) (candidates world u))
-        ≡ ((stays word (shows_in (of_element x) (candidates world u)) && shows_in (of_element x) (candidates world v)) || (not (shows_in (of_element x) (candidates world v)) && shows_in (of_element x) (candidates world u))))
+    shows_in (of_element x) (in_join_family of word (candidates world v) (candidates world u))
+    ≡ ((stays word (shows_in (of_element x) (candidates world u)) && shows_in (of_element x) (candidates world v)) || (not (shows_in (of_element x) (candidates world v)) && shows_in (of_element x) (candidates world u))))
     (sym is) (joined_shows word x (candidates world v) (candidates world u) one two)
 
 -- ---- a base

@@ -7,3 +7,4 @@ pub mod Lanes
 pub mod Narrowing
 pub mod LineLaws
 pub mod LookUps
+pub mod RowForm

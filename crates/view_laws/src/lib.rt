@@ -11,6 +11,7 @@ mod line_laws;
 mod look_laws;
 mod narrowing;
 mod places;
+mod row_laws;
 
 pub use lanes::{GroupOrder, Lane, PartAsk, Pick, Run, all, meets, takes};
 pub use laws::{as_many_places, labels, leaves_in_view};
@@ -18,3 +19,6 @@ pub use line_laws::{found_in_lane, line_hidden, line_joined, line_over, whole_li
 pub use look_laws::{shows_both, shows_first, shows_hidden, shows_over, shows_row};
 pub use narrowing::{flipped, narrow, source_of};
 pub use places::{Found, Place, RowSpot, same_spot, shifted, unshifted};
+pub use row_laws::{
+    candidates_of_rows, found_of_rows, lift_undone, lifted_is_shown, shown_of_rows,
+};
