@@ -29,7 +29,7 @@ turned_round a b h = by (same b a) refl
     by false e = refl
 
 -- the same keys are among some keys and among those, each once
-once-among : (k : Elem) (ks : List Elem) → is_among (each_once ks) k ≡ is_among ks k
+pub once-among : (k : Elem) (ks : List Elem) → is_among (each_once ks) k ≡ is_among ks k
 once-among k [] = refl
 once-among k (l ∷ ks) = by (once-among k ks) (same k l) refl
   where

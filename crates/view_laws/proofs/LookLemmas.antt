@@ -1,5 +1,5 @@
 -- Whether a step shows what is asked for, by what the views below it show.
-use Rattle.std.proofs.Common.{◌≡◌, ℕ, Bool, true, false, cond, ◌&&◌, ◌||◌, List, [], ◌∷◌, length, reverse, refl, ap, sym, ◌∙◌, arith}
+use Rattle.std.proofs.Common.{◌≡◌, ℕ, Bool, true, false, cond, ◌&&◌, ◌||◌, List, [], ◌∷◌, length, map, reverse, refl, ap, sym, ◌∙◌, arith}
 use Rattle.std.specs.Prelude.{filter, nat_lt, Option, Some, None}
 use Rattle.std.specs.List.{list_any, AllByRecursion}
 use Rattle.std.specs.Option.{IfSome}
@@ -7,7 +7,7 @@ use Rattle.std.proofs.lemmas.Bool.Decides.{nat_tests}
 use Rattle.std.proofs.lemmas.List.{reverse-append}
 use Rattle.elem.specs.declared.elements.Elem.{Elem}
 use Rattle.elem.specs.Elements.{same}
-use Rattle.elem.specs.ElementLaws.{same-Decides}
+use Rattle.elem.specs.ElementLaws.{same-Decides, same_equiv}
 use Rattle.vocabulary.specs.declared.items.Item.TheVariants.{One}
 use Rattle.vocabulary.specs.declared.items.Side.TheVariants.{First, Second}
 use Rattle.vocabulary.specs.declared.step_table.Family.{Family}
@@ -17,12 +17,16 @@ use Rattle.vocabulary.specs.Items.{part_of}
 use Rattle.vocabulary.specs.Steps.{family_of, group_item, item_of, passes, side_of}
 use Rattle.machine.specs.Bases.{World}
 use Rattle.machine.specs.Candidates.{Candidate, changed, cut, group, grouped, in_family, is_seen, keys_in, members, of_key, with_item}
-use Rattle.machine.specs.KeyOrders.{KeyOrder, is_among}
+use Rattle.machine.specs.KeyOrders.{AsTheyCome, ByFirst, Kept, KeyOrder, Sorted, arranged, each_once, in_order, inserted, is_among}
+use Rattle.vocabulary.specs.declared.items.Side.{Side}
+use Rattle.vocabulary.specs.declared.orders.Order.{Order}
+use Rattle.vocabulary.specs.Orders.{before}
+use Rattle.view_laws.proofs.KeyLemmas.{once-among}
 use Rattle.machine.specs.Views.{View, over, candidates, order_over}
 use Rattle.view_laws.specs.declared.lanes.Lane.{Lane}
 use Rattle.view_laws.specs.declared.lanes.PartAsk.TheVariants.{Any}
 use Rattle.view_laws.specs.Lanes.{meets, takes}
-use Rattle.view_laws.specs.LookUps.{HasGroups, TellsEach, look_below, look_in, shows_in}
+use Rattle.view_laws.specs.LookUps.{HasGroups, leaves_none, TellsEach, look_below, look_in, shows_in}
 use Rattle.view_laws.specs.Narrowing.{asked_by, asking, asks_moved, source_of}
 use Rattle.view_laws.proofs.AskLemmas.{asks_takes}
 use Rattle.view_laws.proofs.ListLemmas.{all-as, and-false, and-true, any-and, any-append, any-filter, any-map, any-same}
@@ -184,3 +188,41 @@ pub shows-over : (world : World) (it : Step) (v : View) (lane below : Lane) → 
     → shows_in lane (candidates world (over it v)) ≡ shows_in below (candidates world v)
 shows-over world it v lane below told covers is =
     if_is (ShowsBelow lane (candidates world (over it v)) (candidates world v)) (look_below it lane) below is (look_step (family_of it) it refl lane (order_over world v it) (candidates world v) told covers)
+
+-- ---- no key is left out
+
+or-first : (a b c : Bool) → (a || (b || c)) ≡ (b || (a || c))
+or-first true true c = refl
+or-first true false c = refl
+or-first false b c = refl
+
+among-inserted : (order : Order) (x k : Elem) (ks : List Elem) → is_among (inserted order k ks) x ≡ (same x k || is_among ks x)
+among-inserted order x k [] = refl
+among-inserted order x k (l ∷ ks) = by (among-inserted order x k ks) (before order k l)
+  where
+    by : is_among (inserted order k ks) x ≡ (same x k || is_among ks x) → (t : Bool) → is_among (cond t (k ∷ l ∷ ks) (l ∷ inserted order k ks)) x ≡ (same x k || (same x l || is_among ks x))
+    by rest true = refl
+    by rest false = ap (λ b. same x l || b) rest ∙ or-first (same x l) (same x k) (is_among ks x)
+
+among-ordered : (order : Order) (x : Elem) (ks : List Elem) → is_among (in_order order ks) x ≡ is_among ks x
+among-ordered order x [] = refl
+among-ordered order x (k ∷ ks) = among-inserted order x k (in_order order ks) ∙ ap (λ b. same x k || b) (among-ordered order x ks)
+
+among-arranged : (order : KeyOrder) (x : Elem) (ks : List Elem) → leaves_none order ≡ true → is_among (arranged order (each_once ks)) x ≡ is_among ks x
+among-arranged AsTheyCome x ks h = once-among x ks
+among-arranged ByFirst x ks h = once-among x ks
+among-arranged (Kept order) x ks h = absurd (cc)
+among-arranged (Sorted order) x ks h = among-ordered order x (each_once ks) ∙ once-among x ks
+
+parts_there : (side : Side) (ks : List Elem) (cs : List Candidate) → ((x : Elem) → is_among (map (λ (c : Candidate). part_of side c.item) cs) x ≡ true → is_among ks x ≡ true)
+    → AllByRecursion (λ (c : Candidate). is_among ks (part_of side c.item) ≡ true) cs
+parts_there side ks [] h = tt
+parts_there side ks (c ∷ cs) h = (
+  h (part_of side c.item) (ap (λ b. b || is_among (map (λ (d : Candidate). part_of side d.item) cs) (part_of side c.item)) (same_equiv.refl (part_of side c.item))),
+  parts_there side ks cs (λ x e. h x (ap (λ b. same x (part_of side c.item) || b) e ∙ or-swap (same x (part_of side c.item)) true)),
+)
+
+pub groups-there : (world : World) (v : View) (it : Step) → leaves_none (order_over world v it) ≡ true → HasGroups world v it
+groups-there world v it h =
+    parts_there (side_of it) (keys_in (side_of it) (order_over world v it) (candidates world v)) (candidates world v)
+    (λ x e. among-arranged (order_over world v it) x (map (λ (c : Candidate). part_of (side_of it) c.item) (candidates world v)) h ∙ e)

@@ -19,14 +19,14 @@ use Rattle.vocabulary.specs.Joins.{join_family, stays}
 use Rattle.vocabulary.specs.Steps.{family_of, side_of}
 use Rattle.machine.specs.Bases.{World}
 use Rattle.machine.specs.Candidates.{Candidate, keys_in}
-use Rattle.machine.specs.KeyOrders.{is_among}
+use Rattle.machine.specs.KeyOrders.{KeyOrder, Kept, is_among}
 use Rattle.machine.specs.Leaves.{Leaf, leaf_at}
 use Rattle.machine.specs.Views.{View, base, both, over, candidates, order_over}
 use Rattle.view_laws.specs.declared.lanes.Lane.{Lane}
 use Rattle.view_laws.specs.declared.lanes.PartAsk.{PartAsk}
 use Rattle.view_laws.specs.declared.lanes.PartAsk.TheVariants.{Any, Is}
 use Rattle.view_laws.specs.Lanes.{asked_of, takes}
-use Rattle.view_laws.specs.Narrowing.{asked_by, asking, asks_moved, is_any, is_cell, source_of, tells}
+use Rattle.view_laws.specs.Narrowing.{cut_asks, asking, asks_moved, is_any, is_cell, source_of, tells}
 
 -- whether some candidates show an item that a lane takes
 abbrev pub shows_in : Lane → List Candidate → Bool
@@ -39,7 +39,7 @@ abbrev pub look_in : Family → Step → Lane → Option Lane
 look_in family.Same it lane = Some lane
 look_in family.Changed it lane = asks_moved (source_of it First) (source_of it Second) lane (asking Any Any)
 look_in family.Turned it lane = Some lane
-look_in family.Cut it lane = asks_moved (source_of it First) (source_of it Second) lane (asked_by it)
+look_in family.Cut it lane = cut_asks it lane
 look_in family.Grouped it lane = asks_moved (Some (side_of it)) (Some (side_of it)) lane (asking Any Any)
 look_in other it lane = None
 
@@ -53,6 +53,14 @@ TellsEach it lane cs = AllByRecursion (λ (c : Candidate). (side : Side) → is_
 -- a step that groups has a group for each of them
 abbrev pub HasGroups : World → View → Step → Type 0
 HasGroups world v it = AllByRecursion (λ (c : Candidate). is_among (keys_in (side_of it) (order_over world v it) (candidates world v)) (part_of (side_of it) c.item) ≡ true) (candidates world v)
+
+-- an order of keys that leaves none out
+abbrev pub leaves_none : KeyOrder → Bool
+leaves_none (Kept ks) = false
+leaves_none order = true
+
+abbrev pub GroupsThere : Type 0
+GroupsThere = (world : World) (v : View) (it : Step) → leaves_none (order_over world v it) ≡ true → HasGroups world v it
 
 abbrev pub ShowsOver : Type 0
 ShowsOver =

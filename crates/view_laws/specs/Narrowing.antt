@@ -121,6 +121,10 @@ moved (Some side) ask lane = with_ask side ask lane
 abbrev pub asks_moved : Option Side → Option Side → Lane → Lane → Option Lane
 asks_moved first second lane start = option_and_then (moved second lane.second) (moved first lane.first start)
 
+-- what a lane asks below a step that leaves items out: what it asks above, and what the step asks
+abbrev pub cut_asks : Step → Lane → Option Lane
+cut_asks it lane = asks_moved (source_of it First) (source_of it Second) lane (asked_by it)
+
 -- ---- which candidates are walked
 
 abbrev pub firsts_by : GroupOrder → Side → Pick
@@ -189,7 +193,7 @@ only_each pick.Each below = below
 only_each other below = None
 
 abbrev pub narrow_cut : Step → Lane → Option Lane
-narrow_cut it lane = only_each lane.pick (asks_moved (source_of it First) (source_of it Second) lane (asked_by it))
+narrow_cut it lane = only_each lane.pick (cut_asks it lane)
 
 abbrev pub narrow_grouped : GroupOrder → Side → Lane → Option Lane
 narrow_grouped order side lane = only_each lane.pick (asks_moved (Some side) (Some side) lane (with_pick (asking Any Any) (pick.Firsts side order)))

@@ -40,6 +40,10 @@ found_group side make cs d =
     let size = length (members side (part_of side d.item) cs) in
     record { item = make (part_of side d.item) size; seen = nat_lt 0 size }
 
+abbrev pub makes_groups : Family → Bool
+makes_groups Grouped = true
+makes_groups other = false
+
 -- what a step has at a place, by what the view below has there and by the candidates of that
 abbrev pub found_over : Family → Step → List Candidate → Found → Found
 found_over Same step cs d = d

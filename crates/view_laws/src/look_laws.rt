@@ -1,6 +1,6 @@
 //! The laws of look-ups, each the contract of a function that does nothing: whether a view shows what is asked for is
 //! told by what the views below it show, down to one search of a base.
-ghost use Rattle.view_laws.specs.LookUps.{ShowsBoth, ShowsFirst, ShowsHidden, ShowsOver, ShowsRow};
+ghost use Rattle.view_laws.specs.LookUps.{GroupsThere, ShowsBoth, ShowsFirst, ShowsHidden, ShowsOver, ShowsRow};
 
 /// A step shows what the view below shows of the parts from which its own come.
 pub fn shows_over()
@@ -25,4 +25,9 @@ pub fn shows_both()
 /// A base shows its rows.
 pub fn shows_row()
     ensures { ShowsRow }
+{}
+
+/// A step that groups has a group for each candidate, unless the base keeps the keys.
+pub fn groups_there()
+    ensures { GroupsThere }
 {}

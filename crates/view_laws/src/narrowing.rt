@@ -49,7 +49,7 @@ fn asked_by(step: &Step) -> Lane
     }
 }
 
-fn asking(first: PartAsk, second: PartAsk) -> Lane
+pub(crate) fn asking(first: PartAsk, second: PartAsk) -> Lane
     ensures { result ≡ spec.asking first second }
 {
     Lane {
@@ -134,7 +134,12 @@ fn moved(source: Option<Side>, ask: &PartAsk, lane: &Lane) -> Option<Lane>
 }
 
 /// A lane below that asks, too, what a lane above asks of both parts.
-fn asks_moved(first: Option<Side>, second: Option<Side>, lane: &Lane, start: &Lane) -> Option<Lane>
+pub(crate) fn asks_moved(
+    first: Option<Side>,
+    second: Option<Side>,
+    lane: &Lane,
+    start: &Lane,
+) -> Option<Lane>
     ensures { result ≡ spec.asks_moved first second lane.now start.now }
 {
     match moved(first, &lane.first, start) {
@@ -218,13 +223,20 @@ fn only_each(pick: Pick, below: Option<Lane>) -> Option<Lane>
     }
 }
 
-fn narrow_cut(step: &Step, lane: &Lane) -> Option<Lane>
-    ensures { result ≡ spec.narrow_cut step.now lane.now }
+/// What a lane asks below a step that leaves items out: what it asks above, and what the step asks.
+pub(crate) fn cut_asks(step: &Step, lane: &Lane) -> Option<Lane>
+    ensures { result ≡ spec.cut_asks step.now lane.now }
 {
     let start = asked_by(step);
     let first = source_of(step, Side::First);
     let second = source_of(step, Side::Second);
-    only_each(lane.pick, asks_moved(first, second, lane, &start))
+    asks_moved(first, second, lane, &start)
+}
+
+fn narrow_cut(step: &Step, lane: &Lane) -> Option<Lane>
+    ensures { result ≡ spec.narrow_cut step.now lane.now }
+{
+    only_each(lane.pick, cut_asks(step, lane))
 }
 
 fn narrow_grouped(order: GroupOrder, side: Side, lane: &Lane) -> Option<Lane>
