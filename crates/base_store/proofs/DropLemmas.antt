@@ -72,6 +72,10 @@ module _ {V : Type 0} where
   pub next_key : (old front rest : List (Elem × V)) (k : Elem) (v : V) → HasDistinctKeys old → old ≡ front ++ (k, v) ∷ rest → key_after (same k) old ≡ first_key rest
   next_key old front rest k v d e = let none = none_before front k v rest (subst HasDistinctKeys e d) in ap (key_after (same k)) e ∙ key_after_at (same k) front (k, v) rest none ((same-Decides k k).1 refl)
 
+  pub value_here : (old front rest : List (Elem × V)) (k : Elem) (v : V) → HasDistinctKeys old → old ≡ front ++ (k, v) ∷ rest → value_at old k ≡ Some v
+  value_here old front rest k v d e =
+      ap (λ (rows : List (Elem × V)). value_at rows k) e ∙ lookup_at (same k) front (k, v) rest (none_before front k v rest (subst HasDistinctKeys e d)) ((same-Decides k k).1 refl)
+
   pub dropped : (old new front rest : List (Elem × V)) (k : Elem) (v w : V) (test : V → Bool) → HasDistinctKeys old → Some w ≡ value_at old k → new ≡ cond (test w) (without old k) old → old ≡ front ++ (k, v) ∷ rest
       → new ≡ front ++ cond (test v) rest ((k, v) ∷ rest)
   dropped old new front rest k v w test d is new_is e =
@@ -89,11 +93,11 @@ module _ {V : Type 0} where
   first_row [] k e = absurd (cc)
   first_row (row ∷ rows) k e = (row.1, rows, ap (λ (x : Elem). (x, row.1) ∷ rows) (sym (same_Some k row.0 e)))
 
-  no_row : (rows : List (Elem × V)) → None ≡ first_key rows → rows ≡ []
+  pub no_row : (rows : List (Elem × V)) → None ≡ first_key rows → rows ≡ []
   no_row [] e = refl
   no_row (row ∷ rows) e = absurd (cc)
 
-  present : (front : List (Elem × V)) (k : Elem) (v : V) (rest : List (Elem × V)) → IsPresent (front ++ (k, v) ∷ rest) k
+  pub present : (front : List (Elem × V)) (k : Elem) (v : V) (rest : List (Elem × V)) → IsPresent (front ++ (k, v) ∷ rest) k
   present [] k v rest = ap (λ b. is_some (cond b (Some v) (value_at rest k))) ((same-Decides k k).1 refl)
   present (row ∷ front) k v rest = by (same k row.0) (present front k v rest)
     where
@@ -101,7 +105,7 @@ module _ {V : Type 0} where
       by true h = refl
       by false h = h
 
-  one_more : (i : ℕ) (old : List (Elem × V)) (row : Elem × V) (rest : List (Elem × V)) → drop i old ≡ row ∷ rest → (take (suc i) old ≡ take i old ++ row ∷ []) × (drop (suc i) old ≡ rest)
+  pub one_more : (i : ℕ) (old : List (Elem × V)) (row : Elem × V) (rest : List (Elem × V)) → drop i old ≡ row ∷ rest → (take (suc i) old ≡ take i old ++ row ∷ []) × (drop (suc i) old ≡ rest)
   one_more zero old row rest e = (ap (take 1) e, ap (drop 1) e)
   one_more (suc i) [] row rest e = absurd (cc)
   one_more (suc i) (first ∷ old) row rest e = let more = one_more i old row rest e in (ap (λ (l : List (Elem × V)). first ∷ l) more.0, more.1)

@@ -10,7 +10,13 @@ pub mod DropLemmas
 pub mod JournalLemmas
 pub mod ListRowLemmas
 pub mod PutLemmas
+pub mod FactLemmas
 pub mod BuiltLemmas
 pub mod SpotLemmas
 pub mod ShownLemmas
 pub mod FitLemmas
+pub mod KeyDrops
+pub mod WindowDrops
+pub mod LaneLemmas
+pub mod AnyShown
+pub mod KeptLemmas

@@ -33,7 +33,7 @@ module _ {V : Type 0} where
       by true ih = (f.0, ih)
       by false ih = ih
 
-  in_order-filter : (before : Elem → Elem → Bool) (p : Elem × V → Bool) (rows : List (Elem × V)) → IsInOrder before rows → IsInOrder before (filter p rows)
+  pub in_order-filter : (before : Elem → Elem → Bool) (p : Elem × V → Bool) (rows : List (Elem × V)) → IsInOrder before rows → IsInOrder before (filter p rows)
   in_order-filter before p [] s = tt
   in_order-filter before p (r ∷ rs) s = by (p r) (in_order-filter before p rs s.1)
     where
@@ -79,7 +79,7 @@ module _ {before : Elem → Elem → Bool} (o : IsStrictOrder before) where
   below_on End k x h xk = refl
 
   -- the window behind a key is what comes after the key in the window
-  behind : (lo hi : Cut) (k x : Elem) → cut_upto before lo (Below k) ≡ true → lies_between before lo hi x && before k x ≡ lies_between before (Above k) hi x
+  pub behind : (lo hi : Cut) (k x : Elem) → cut_upto before lo (Below k) ≡ true → lies_between before lo hi x && before k x ≡ lies_between before (Above k) hi x
   behind lo hi k x low = by (before k x) refl
     where
       by : (b : Bool) → before k x ≡ b → lies_between before lo hi x && b ≡ not (not b) && cut_upto before (Above x) hi
@@ -94,7 +94,7 @@ module _ {before : Elem → Elem → Bool} (o : IsStrictOrder before) where
       by false e = and-false (lies_between before lo hi x) ∙ sym (and-false (cut_upto before lo (Below x)))
 
   module _ {V : Type 0} where
-    rows_behind : (lo hi : Cut) (k : Elem) (rows : List (Elem × V)) → cut_upto before lo (Below k) ≡ true → rows_above before k (rows_between before lo hi rows) ≡ rows_between before (Above k) hi rows
+    pub rows_behind : (lo hi : Cut) (k : Elem) (rows : List (Elem × V)) → cut_upto before lo (Below k) ≡ true → rows_above before k (rows_between before lo hi rows) ≡ rows_between before (Above k) hi rows
     rows_behind lo hi k rows low =
         filter-filter (λ (row : Elem × V). before k row.0) (λ (row : Elem × V). lies_between before lo hi row.0) rows ∙ (λ i. filter (λ (row : Elem × V). behind lo hi k row.0 low i) rows)
 

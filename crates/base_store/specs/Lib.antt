@@ -7,3 +7,9 @@ pub mod Nodes
 pub mod Stored
 pub mod Unfolding
 pub mod Journals
+pub mod BaseLanes
+pub mod Reaches
+pub mod Facts
+pub mod NodeLists
+pub mod KeptSteps
+pub mod Codes

@@ -2,13 +2,15 @@
 use Rattle.std.specs.Prelude.{◌≡◌, ℕ, ◌+◌, ◌<◌, ◌≤◌, List, [], ◌∷◌, ◌++◌, length, take, Some, slice_get}
 use Rattle.base_store.specs.declared.store.Made.{Made}
 use Rattle.base_store.specs.declared.store.Made.TheVariants as made
+use Rattle.base_store.specs.declared.store.facts.Facts.{Facts}
+use Rattle.base_store.specs.Facts.{AreFactsOf}
 use Rattle.base_store.specs.Limits.{most_handles}
 use Rattle.base_store.specs.Nodes.{IsBelow, view_at}
 use Rattle.view_steps.specs.declared.kinds.Kind.{Kind}
 use Rattle.view_steps.specs.Limits.{rows_in, most_rows}
 use Rattle.view_steps.specs.KeptSteps.{IsMade}
 use Rattle.view_steps.specs.Places.{HasKeys}
-use Rattle.view_steps.specs.Views.{Base, World, View, base_at, empty_base}
+use Rattle.view_steps.specs.Views.{World, View, base_at, empty_base}
 
 -- the nodes at the front last, and those behind them are temporary; what lasts was counted by handles
 pub record Stored : Type 0 where
@@ -28,9 +30,11 @@ pub record IsBuilt (s : Stored) : Type 0 where
   pub made : (n : ℕ) → n < length s.nodes → IsMade s.world (view_in s n)
   pub keys : (b : ℕ) → HasKeys (base_at s.world b)
 
--- the nodes are built, the rows are counted, and neither they nor the handles pass their limit
-pub record IsSound (s : Stored) (rows : ℕ) : Type 0 where
+-- the nodes are built, each keeps the facts of its view, the rows are counted, and neither they nor the handles pass
+-- their limit
+pub record IsSound (s : Stored) (facts : List Facts) (rows : ℕ) : Type 0 where
   pub built : IsBuilt s
+  pub kept : AreFactsOf s.world s.nodes facts
   pub counted : rows ≡ rows_in s.world
   pub few : rows ≤ most_rows
   pub handles : s.handles ≤ most_handles

@@ -8,4 +8,4 @@ use Rattle.view_steps.specs.Views.{base, over}
 -- the view of a node, by how it was made: a base of the store, or a step over a node before it
 abbrev pub Unfolds : Stored → ℕ → Node → Type 0
 Unfolds s n (node.Base b) = (view_in s n ≡ base b) × (b < length s.world)
-Unfolds s n (node.Step step parent) = (view_in s n ≡ over step.now (view_in s parent)) × (parent < n)
+Unfolds s n (node.Step step parent) = (view_in s n ≡ over step (view_in s parent)) × (parent < n)

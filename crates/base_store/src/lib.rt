@@ -5,6 +5,7 @@
 #![tactic(auto)]
 
 mod base_rows;
+mod reach;
 mod refs;
 mod row_test;
 mod store;

@@ -36,12 +36,12 @@ impl Model for BaseId {
 }
 
 /// How a view was made.
-#[derive(Clone, Copy, Debug)]
+#[derive(Debug, Drop)]
 pub enum Node<'a> {
     /// It is a base.
     Base(BaseId),
     /// It is a step over another view.
-    Step { step: &'a Step, parent: AnyRef },
+    Step { step: Step<'a>, parent: AnyRef },
 }
 
 ghost use Rattle.std.specs.Prelude.{◌≡◌};

@@ -1,10 +1,10 @@
-ghost use Rattle.std.specs.Prelude.{◌≡◌};
+ghost use Rattle.std.specs.Prelude.{◌≡◌, true};
 
 use view_steps::Item;
 
 /// A test of rows, or of the items that a view shows.
 pub trait RowTest {
-    ghost use Rattle.std.specs.Prelude.{Bool};
+    ghost use Rattle.std.specs.Prelude.{◌≡◌, Bool, true};
     ghost use Rattle.view_steps.specs.declared.items.Item.{Item as AnyItem};
 
     /// Which ones pass.
@@ -13,4 +13,11 @@ pub trait RowTest {
     /// Whether one passes.
     fn test(&self, item: &Item) -> bool
         ensures { result ≡ passes self.now item.now };
+
+    /// Whether the test is known to let every one pass.
+    fn takes_all(&self) -> bool
+        ensures { result ≡ true → (item : AnyItem) → passes self.now item ≡ true }
+    {
+        false
+    }
 }

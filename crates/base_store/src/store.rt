@@ -4,13 +4,19 @@ ghost use Rattle.base_store.specs.Limits.{most_handles};
 ghost use Rattle.base_store.specs.Unfolding.{Unfolds};
 ghost use Rattle.base_store.specs.Nodes.{IsBelow};
 ghost use Rattle.base_store.specs.BaseRows.{kind_of, rows_of, AreRowsOf};
+ghost use Rattle.base_store.specs.Facts.{facts_at};
+ghost use Rattle.base_store.specs.NodeLists.{with_lasting};
 ghost use Rattle.base_store.specs.declared.store.Made.TheVariants.{Base as base_node, Over as step_node};
 ghost use Rattle.view_steps.specs.KeptSteps.{order_at, window_at, IsKept, IsMade};
 ghost use Rattle.view_steps.specs.Limits.{rows_in, most_rows};
 ghost use Rattle.view_steps.specs.Places.{HasKeys};
 ghost use Rattle.view_steps.specs.Steps as table;
-ghost use Rattle.view_steps.specs.Views.{base, over, base_at, base_under, empty_base, path, shape_at, flags_at};
+ghost use Rattle.view_steps.specs.Views.{base, over, base_at, base_under, empty_base, path, shape_at, flags_at, turned};
 
+mod dropping;
+mod facts;
+mod kept;
+mod nodes;
 mod reading;
 mod shown;
 mod slots;
@@ -18,26 +24,18 @@ mod writing;
 
 use crate::base_rows::BaseRows;
 use crate::{AnyRef, BaseId, Node};
-use arrayvec::ArrayVec;
-use elem::{Cut, NoMemory, Window};
+use elem::{NoMemory, Window};
+use facts::Facts;
+use nodes::Nodes;
 use std::alloc::Global;
 use std::marker::Model;
-use view_steps::{
-    Flags, Kind, Order, Refusal, Shape, Step, apply, flags_after, order_of_kind, shape_of_kind,
-    window_over,
-};
+use view_steps::{Flags, Kind, Order, Refusal, Shape, Step, order_of_kind};
 
-/// A node, as it is kept: the base of a number, or a step over the node of a number.
-#[derive(Clone, Copy, Debug)]
-pub enum Made {
+/// How a node was made: it is the base of a number, or a step over the node of a number.
+#[derive(Debug, Drop)]
+pub enum Made<'a> {
     Base(usize),
-    Over(Step, usize),
-}
-
-impl Default for Made {
-    fn default() -> Made {
-        Made::Base(0)
-    }
+    Over(Step<'a>, usize),
 }
 
 /// A base: its rows, how often one was added or removed, and whether it is frozen.
@@ -65,8 +63,7 @@ impl Model for Slot {
 pub struct Store {
     alloc: Global,
     slots: Vec<Slot>,
-    nodes: Vec<Made>,
-    temporary: ArrayVec<Made, 32>,
+    nodes: Nodes,
     handles: usize,
     rows: usize,
 }
@@ -78,19 +75,18 @@ const MOST_HANDLES: usize = 65_536;
 const MOST_ROWS: usize = 4_194_304;
 
 impl Model for Store {
-    ghost use Rattle.std.specs.Prelude.{◌++◌, length};
     ghost use Rattle.base_store.specs.Stored.{Stored, IsSound};
 
     ghost Value = { Stored };
 
-    ghost use Rattle.base_store.specs.contracts.store.Made as made;
+    ghost use Rattle.base_store.specs.Codes.{made_code};
     ghost use Rattle.std.specs.Coded.{codes};
 
-    ghost coded = { Prim.hlevel (codes, made.the_row.coded) };
+    ghost coded = { Prim.hlevel (codes, made_code) };
 
-    ghost view = { λ s. record { world = s.slots.items; nodes = s.nodes.items ++ s.temporary.items; lasting = length s.nodes.items; handles = s.handles } };
+    ghost view = { λ s. record { world = s.slots.items; nodes = s.nodes.made; lasting = s.nodes.lasting; handles = s.handles } };
 
-    ghost invariant = { λ s. IsSound (record { world = s.slots.items; nodes = s.nodes.items ++ s.temporary.items; lasting = length s.nodes.items; handles = s.handles }) s.rows };
+    ghost invariant = { λ s. IsSound (record { world = s.slots.items; nodes = s.nodes.made; lasting = s.nodes.lasting; handles = s.handles }) s.nodes.facts s.rows };
 }
 
 impl Store {
@@ -101,8 +97,7 @@ impl Store {
         Store {
             alloc,
             slots: Vec::new(alloc),
-            nodes: Vec::new(alloc),
-            temporary: ArrayVec::new(),
+            nodes: Nodes::new(alloc),
             handles: 0,
             rows: 0,
         }
@@ -126,11 +121,10 @@ impl Store {
         let Ok(rows) = BaseRows::new(self.alloc, kind) else {
             return Err(Refusal::NoMemory);
         };
-        let number = self.nodes.len();
+        let number = self.nodes.lasting();
         let Ok(()) = add_base(&mut self.slots, &mut self.nodes, rows) else {
             return Err(Refusal::NoMemory);
         };
-        self.temporary.clear();
         self.handles += 1;
         Ok(AnyRef::at(number))
     }
@@ -146,22 +140,17 @@ impl Store {
         ensures made { self.new ≡ with_node self.old (step_node step.now parent) }
         ensures view { view_in self.new result ≡ over step.now (view_in self.old parent) }
     {
-        let number = self.node_count();
-        self.temporary.push(Made::Over(*step, parent.number()));
+        let number = self.nodes.count();
+        let facts = self.nodes.facts(parent.number()).over(step);
+        self.nodes.push_step(step, parent.number(), facts);
         AnyRef::at(number)
-    }
-
-    fn node_count(&self) -> usize
-        ensures { result ≡ length self.now.nodes }
-    {
-        self.nodes.len() + self.temporary.len()
     }
 
     /// Ends all temporary nodes.
     pub fn drop_temporary(&mut self)
         ensures { self.new ≡ without_temporary self.old }
     {
-        self.temporary.clear();
+        self.nodes.drop_temporary();
     }
 
     /// Makes the temporary nodes lasting, for so many handles.
@@ -178,14 +167,9 @@ impl Store {
         if handles > MOST_HANDLES - self.handles {
             return Err(Refusal::Limit);
         }
-        if self
-            .nodes
-            .extend_from_slice(self.temporary.as_slice())
-            .is_err()
-        {
+        if self.nodes.keep().is_err() {
             return Err(Refusal::NoMemory);
         }
-        self.temporary.clear();
         self.handles += handles;
         Ok(())
     }
@@ -196,20 +180,29 @@ impl Store {
         ensures { Unfolds self.now n result }
     {
         match self.made(n.number()) {
-            Made::Base(b) => Node::Base(BaseId::at(*b)),
+            Made::Base(b) => Node::Base(BaseId::at(b)),
             Made::Over(step, parent) => Node::Step {
                 step,
-                parent: AnyRef::at(*parent),
+                parent: AnyRef::at(parent),
             },
         }
     }
 
-    fn made(&self, n: usize) -> &Made
+    fn made(&self, n: usize) -> Made<'_>
         requires { n < length self.now.nodes }
-        ensures at { slice_get self.now.nodes n ≡ Some result.now }
-        ensures below { IsBelow (length self.now.world) n result.now }
+        ensures at { slice_get self.now.nodes n ≡ Some result }
+        ensures below { IsBelow (length self.now.world) n result }
     {
-        node_among(self.nodes.as_slice(), self.temporary.as_slice(), n)
+        self.nodes.made(n)
+    }
+
+    fn facts(&self, n: AnyRef) -> &Facts
+        requires { n < length self.now.nodes }
+        ensures { result.now ≡ facts_at self.now.world (view_in self.now n) }
+    {
+        // What is sound about a store is known once a field of it is read.
+        let _ = &self.alloc;
+        self.nodes.facts(n.number())
     }
 
     /// The base under a node. What stands there is sound: each step is one that the view below it has, and no two rows
@@ -223,18 +216,7 @@ impl Store {
     {
         // What is sound about a store is known once a field of it is read.
         let _ = &self.alloc;
-        self.root_of(n)
-    }
-
-    fn root_of(&self, n: AnyRef) -> BaseId
-        requires { n < length self.now.nodes }
-        ensures base { result ≡ base_under (view_in self.now n) }
-        ensures within { result < length self.now.world }
-    {
-        match self.node(n) {
-            Node::Base(b) => b,
-            Node::Step { parent, .. } => self.root_of(parent),
-        }
+        BaseId::at(self.facts(n).base)
     }
 
     /// How many steps lead to a node.
@@ -243,10 +225,9 @@ impl Store {
         ensures path { result ≡ path (view_in self.now n) }
         ensures within { result ≤ n }
     {
-        match self.node(n) {
-            Node::Base(_) => 0,
-            Node::Step { parent, .. } => self.path(parent) + 1,
-        }
+        // What is sound about a store is known once a field of it is read.
+        let _ = &self.alloc;
+        self.facts(n).path
     }
 
     /// The shape of a node.
@@ -254,16 +235,7 @@ impl Store {
         requires { n < length self.now.nodes }
         ensures { result ≡ shape_at self.now.world (view_in self.now n) }
     {
-        match self.node(n) {
-            Node::Base(b) => shape_of_kind(self.kind(b)),
-            Node::Step { step, parent } => {
-                let below = self.shape(parent);
-                match apply(&below, step) {
-                    Some(shape) => shape,
-                    None => below,
-                }
-            }
-        }
+        self.facts(n).shape
     }
 
     /// What a node allows.
@@ -271,26 +243,7 @@ impl Store {
         requires { n < length self.now.nodes }
         ensures { result ≡ flags_at self.now.world (view_in self.now n) }
     {
-        match self.node(n) {
-            Node::Base(b) => self.base_flags(b),
-            Node::Step { step, parent } => flags_after(
-                &self.shape(parent),
-                step,
-                self.flags_of(parent),
-            ),
-        }
-    }
-
-    fn base_flags(&self, b: BaseId) -> Flags
-        requires { b < length self.now.world }
-        ensures { result ≡ flags_at self.now.world (base b) }
-    {
-        let open = !self.slots[b.number()].frozen;
-        Flags {
-            add: open,
-            remove: open,
-            iterate: open,
-        }
+        self.facts(n).flags
     }
 
     /// The window of a node: that of the last `within` on its path.
@@ -298,13 +251,15 @@ impl Store {
         requires { n < length self.now.nodes }
         ensures { result ≡ window_at (view_in self.now n) }
     {
-        match self.node(n) {
-            Node::Base(_) => Window {
-                lo: Cut::Start,
-                hi: Cut::End,
-            },
-            Node::Step { step, parent } => window_over(step, &self.window_of(parent)),
-        }
+        self.facts(n).window
+    }
+
+    /// Whether a node is walked from the back of its base.
+    pub fn is_turned(&self, n: AnyRef) -> bool
+        requires { n < length self.now.nodes }
+        ensures { result ≡ turned (view_in self.now n) }
+    {
+        self.facts(n).turned
     }
 
     /// The order in which a node's windows are read.
@@ -362,15 +317,16 @@ impl Store {
     }
 }
 
-/// Adds a base without rows, and its node.
-fn add_base(slots: &mut Vec<Slot>, nodes: &mut Vec<Made>, rows: BaseRows) -> Result<(), NoMemory>
+/// Adds a base without rows, and its node. The temporary nodes end.
+fn add_base(slots: &mut Vec<Slot>, nodes: &mut Nodes, rows: BaseRows) -> Result<(), NoMemory>
     requires { rows_of rows ≡ [] }
     ensures slots { OnOk result (slots.new.items ≡ slots.old.items ++ empty_base (kind_of rows) ∷ []) }
-    ensures nodes { OnOk result (nodes.new.items ≡ nodes.old.items ++ base_node (length slots.old.items) ∷ []) }
-    ensures err { OnErr result ((slots.new.items ≡ slots.old.items) × (nodes.new.items ≡ nodes.old.items)) }
+    ensures nodes { OnOk result (nodes.new ≡ with_lasting nodes.old (base_node (length slots.old.items)) (facts_at (slots.old.items ++ empty_base (kind_of rows) ∷ []) (base (length slots.old.items)))) }
+    ensures err { OnErr result ((slots.new.items ≡ slots.old.items) × (nodes.new ≡ nodes.old)) }
 {
-    let node = Made::Base(slots.as_slice().len());
-    if slots.reserve(1).is_err() || nodes.extend_from_slice(&[node]).is_err() {
+    let number = slots.as_slice().len();
+    let facts = Facts::of_base(number, rows.kind(), false);
+    if slots.reserve(1).is_err() || nodes.push_base(number, facts).is_err() {
         return Err(NoMemory);
     }
     slots.push_reserved(Slot {
@@ -379,16 +335,4 @@ fn add_base(slots: &mut Vec<Slot>, nodes: &mut Vec<Made>, rows: BaseRows) -> Res
         frozen: false,
     });
     Ok(())
-}
-
-/// The node of a number among the lasting ones, or behind them among the temporary ones.
-fn node_among<'a>(lasting: &'a [Made], temporary: &'a [Made], n: usize) -> &'a Made
-    requires { n < length (lasting.now ++ temporary.now) }
-    ensures { slice_get (lasting.now ++ temporary.now) n ≡ Some result.now }
-{
-    if n < lasting.len() {
-        &lasting[n]
-    } else {
-        &temporary[n - lasting.len()]
-    }
 }

@@ -7,7 +7,7 @@ use Rattle.std.proofs.lemmas.List.Folds.{list_any-append, list_any_more}
 use Rattle.build_base.specs.Kept.{firsts, lasts, has_twice, those_like}
 
 module _ {R : Type 0} where
-  filter-push : (p : R → Bool) (rows : List R) (r : R) → filter p (rows ++ r ∷ []) ≡ cond (p r) (filter p rows ++ r ∷ []) (filter p rows)
+  pub filter-push : (p : R → Bool) (rows : List R) (r : R) → filter p (rows ++ r ∷ []) ≡ cond (p r) (filter p rows ++ r ∷ []) (filter p rows)
   filter-push p [] r = refl
   filter-push p (row ∷ rows) r = ap (λ l. cond (p row) (row ∷ l) l) (filter-push p rows r) ∙ by (p row) (p r)
     where
@@ -48,7 +48,7 @@ module _ {R : Type 0} (alike : R → R → Bool) where
       by false true = refl
       by false false = refl
 
-  list_any-same : (p q : R → Bool) → ((x : R) → p x ≡ q x) → (rows : List R) → list_any p rows ≡ list_any q rows
+  pub list_any-same : (p q : R → Bool) → ((x : R) → p x ≡ q x) → (rows : List R) → list_any p rows ≡ list_any q rows
   list_any-same p q e [] = refl
   list_any-same p q e (row ∷ rows) = ap (λ b. b || list_any p rows) (e row) ∙ ap (λ b. q row || b) (list_any-same p q e rows)
 

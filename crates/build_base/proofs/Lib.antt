@@ -2,3 +2,5 @@ pub mod KeptLemmas
 pub mod RowLemmas
 pub mod BuiltLemmas
 pub mod WalkLemmas
+pub mod GroupLemmas
+pub mod GroupSteps

@@ -1,6 +1,6 @@
 -- What a builder makes of its items, and what it refuses.
 use Rattle.std.specs.Prelude.{◌≡◌, ℕ, ◌+◌, Bool, false, cond, nat_lt, nat_eq, ◌||◌, ⊤, List, [], ◌∷◌, ◌++◌, map, Some}
-use Rattle.std.specs.List.{sum_by}
+use Rattle.std.specs.List.{All, sum_by}
 use Rattle.elem.specs.declared.elements.Elem.{Elem}
 use Rattle.elem.specs.declared.build_kinds.BuildKind.{BuildKind}
 use Rattle.elem.specs.declared.build_kinds.BuildKind.TheVariants as kind
@@ -13,7 +13,7 @@ use Rattle.build_base.specs.declared.finish.Finish.{Finish}
 use Rattle.build_base.specs.declared.finish.Finish.TheVariants.{Plain, OrThrow, KeepingLast}
 use Rattle.build_base.specs.Rows.{alike, first_of, Fits}
 use Rattle.build_base.specs.Kept.{firsts, lasts, has_twice, grouped}
-use Rattle.build_base.specs.Ranges.{overlap, range_set_of, range_map_of, range_of, entry_of}
+use Rattle.build_base.specs.Ranges.{overlap, range_set_of, range_map_of, range_of, entry_of, IsWholeRow}
 
 -- a kind, and the items in the order of their adding
 pub record Build : Type 0 where
@@ -88,3 +88,9 @@ abbrev pub IsBuilt : BuildKind → Finish → List Row → List Row → Type 0
 IsBuilt kind.RangeSet how items rows = map range_of rows ≡ map Some (range_set_of items)
 IsBuilt kind.RangeMap how items rows = map entry_of rows ≡ map Some (range_map_of items)
 IsBuilt k how items rows = rows ≡ built k how items
+
+-- the ranges that were built are of whole numbers
+abbrev pub AreWhole : BuildKind → List Row → Type 0
+AreWhole kind.RangeSet rows = All IsWholeRow rows
+AreWhole kind.RangeMap rows = All IsWholeRow rows
+AreWhole k rows = ⊤

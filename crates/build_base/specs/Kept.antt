@@ -1,5 +1,6 @@
 -- Which of a list's rows are kept: the first or the last of those that are alike, or those of each key in turn.
-use Rattle.std.specs.Prelude.{Bool, false, not, cond, ◌||◌, List, [], ◌∷◌, ◌++◌}
+use Rattle.std.specs.Prelude.{ℕ, suc, Bool, false, not, cond, ◌||◌, List, [], ◌∷◌, ◌++◌, map, slice_set, slice_index_or, Option, Some, None}
+use Rattle.std.specs.Option.{option_map}
 use Rattle.std.specs.List.{filter, list_any}
 
 module _ {R : Type 0} (alike : R → R → Bool) where
@@ -26,3 +27,18 @@ module _ {R : Type 0} (alike : R → R → Bool) where
   -- those that are alike together, in the order of the first of each
   abbrev pub grouped : List R → List R
   grouped rows = those_like (firsts rows) rows
+
+  -- the rows of each key, in the order of the first of each
+  abbrev pub groups_of : List R → List (List R)
+  groups_of rows = map (λ head. filter (alike head) rows) (firsts rows)
+
+module _ {R : Type 0} where
+  -- where the first of the rows stands that passes
+  abbrev pub place_of : (R → Bool) → List R → Option ℕ
+  place_of passes [] = None
+  place_of passes (row ∷ rows) = cond (passes row) (Some 0) (option_map suc (place_of passes rows))
+
+  -- a row comes last in the group of that place, or is a new group
+  abbrev pub with_row : Option ℕ → R → List (List R) → List (List R)
+  with_row (Some j) row groups = slice_set groups j (slice_index_or groups j [] ++ row ∷ [])
+  with_row None row groups = groups ++ (row ∷ []) ∷ []

@@ -5,6 +5,7 @@ use Rattle.elem.specs.declared.spans.Span.{Span}
 use Rattle.elem.specs.Cuts.{cut_before}
 use Rattle.elem.specs.Orders.{natural_before}
 use Rattle.elem.specs.Places.{place}
+use Rattle.elem.specs.Spans.{IsWhole}
 use Rattle.range_base.specs.Rows.{Row as RangeRow}
 use Rattle.range_base.specs.Edits.{add, put}
 use Rattle.range_base.specs.Spans.{row_of_span, row_of_entry}
@@ -49,3 +50,9 @@ range_of row = None
 abbrev pub entry_of : Row → Option (RangeRow Elem)
 entry_of (RangeValue s v) = Some (row_of_entry (s, v))
 entry_of row = None
+
+-- the range in a row, where there is one, is one of whole numbers
+abbrev pub IsWholeRow : Row → Type 0
+IsWholeRow (Range s) = IsWhole s
+IsWholeRow (RangeValue s v) = IsWhole s
+IsWholeRow row = ⊤

@@ -3,7 +3,7 @@ ghost use Rattle.elem.specs.declared.build_kinds.BuildKind.TheVariants as Kind;
 ghost use Rattle.build_base.specs.declared.part.Part.TheVariants.{First, Second};
 ghost use Rattle.build_base.specs.Rows.{Fits, alike};
 ghost use Rattle.build_base.specs.Kept.{firsts, has_twice};
-ghost use Rattle.build_base.specs.Built.{AllFit, HasWord, IsBuilt, all_of, built, refuses, refuses_item, with_item};
+ghost use Rattle.build_base.specs.Built.{AllFit, AreWhole, HasWord, IsBuilt, all_of, built, refuses, refuses_item, with_item};
 
 use crate::counted::{count_at, count_item, counted};
 use crate::firsts::{copied, firsts, lasts, once};
@@ -115,6 +115,7 @@ impl Builder {
     ) -> Result<Vec<Row>, BuildFault>
         requires { HasWord self.now.kind how }
         ensures rows { IfOk result (λ rows. IsBuilt self.now.kind how self.now.items rows.items) }
+        ensures whole { IfOk result (λ rows. AreWhole self.now.kind rows.items) }
         ensures allowed { OnOk result (refuses self.now.kind how self.now.items ≡ false) }
         ensures refused { result ≡ Err BuildFault.Refused → refuses self.now.kind how self.now.items ≡ true }
         ensures step { steps.new ≡ steps.old + 1 }

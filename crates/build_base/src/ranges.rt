@@ -1,9 +1,10 @@
 //! The rows of a range set and of a range map after all ranges were added.
 ghost use Rattle.std.specs.Prelude.{◌≡◌, ◌≢◌, map, true, false, Some, Err, IfOk, OnOk};
+ghost use Rattle.std.specs.List.{All};
 ghost use Rattle.elem.specs.declared.build_kinds.BuildKind.TheVariants as kind;
 ghost use Rattle.build_base.specs.Rows.{Fits};
 ghost use Rattle.build_base.specs.Kept.{has_twice};
-ghost use Rattle.build_base.specs.Ranges.{overlap, with_range, with_entry, range_set_of, range_map_of, range_of, entry_of};
+ghost use Rattle.build_base.specs.Ranges.{overlap, with_range, with_entry, range_set_of, range_map_of, range_of, entry_of, IsWholeRow};
 ghost use Rattle.build_base.specs.Built.{AllFit};
 
 use crate::firsts::push;
@@ -16,6 +17,7 @@ use std::alloc::Global;
 pub fn range_set(alloc: Global, items: &[Row]) -> Result<Vec<Row>, BuildFault>
     requires { AllFit kind.RangeSet items.now }
     ensures rows { IfOk result (λ rows. map range_of rows.items ≡ map Some (range_set_of items.now)) }
+    ensures whole { IfOk result (λ rows. All IsWholeRow rows.items) }
     ensures allowed { OnOk result (has_twice overlap items.now ≡ false) }
     ensures refused { result ≡ Err BuildFault.Refused → has_twice overlap items.now ≡ true }
 {
@@ -56,6 +58,7 @@ fn add_range(rows: &mut FreeRangeRows, item: &Row) -> Result<(), BuildFault>
 /// The rows of a range set in order.
 fn spans(alloc: Global, ranges: &FreeRangeRows) -> Result<Vec<Row>, BuildFault>
     ensures rows { IfOk result (λ rows. map range_of rows.items ≡ map Some ranges.now) }
+    ensures whole { IfOk result (λ rows. All IsWholeRow rows.items) }
     ensures never { result ≢ Err BuildFault.Refused }
 {
     let mut rows = Vec::new(alloc);
@@ -74,6 +77,7 @@ fn spans(alloc: Global, ranges: &FreeRangeRows) -> Result<Vec<Row>, BuildFault>
 pub fn range_map(alloc: Global, items: &[Row]) -> Result<Vec<Row>, BuildFault>
     requires { AllFit kind.RangeMap items.now }
     ensures rows { IfOk result (λ rows. map entry_of rows.items ≡ map Some (range_map_of items.now)) }
+    ensures whole { IfOk result (λ rows. All IsWholeRow rows.items) }
     ensures allowed { OnOk result (has_twice overlap items.now ≡ false) }
     ensures refused { result ≡ Err BuildFault.Refused → has_twice overlap items.now ≡ true }
 {
@@ -114,6 +118,7 @@ fn put_range(rows: &mut FreeRangeMapRows, item: &Row) -> Result<(), BuildFault>
 /// The rows of a range map in order.
 fn entries(alloc: Global, ranges: &FreeRangeMapRows) -> Result<Vec<Row>, BuildFault>
     ensures rows { IfOk result (λ rows. map entry_of rows.items ≡ map Some ranges.now) }
+    ensures whole { IfOk result (λ rows. All IsWholeRow rows.items) }
     ensures never { result ≢ Err BuildFault.Refused }
 {
     let mut rows = Vec::new(alloc);

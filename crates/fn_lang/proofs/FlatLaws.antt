@@ -1,8 +1,8 @@
--- An array that is filled from a list of parts.
-use Rattle.std.proofs.Common.{◌≡◌, ℕ, ◌-◌, ◌<◌, ◌≤◌, Bool, true, false, List, [], ◌∷◌, ◌++◌, length, take, drop, Option, Some, None, Ok, Err, refl, sym, ap, ◌∙◌, arith, length-append}
-use Rattle.std.specs.Prelude.{replicate, nat_lt}
+-- The parts that are read of a text, and what is found along them.
+use Rattle.std.proofs.Common.{◌≡◌, ℕ, ◌-◌, ◌<◌, ◌≤◌, Bool, true, false, List, [], ◌∷◌, ◌++◌, length, take, Option, Some, None, Ok, Err, refl, sym, ap, ◌∙◌, arith}
+use Rattle.std.specs.Prelude.{nat_lt}
 use Rattle.std.proofs.lemmas.Bool.Decides.{nat_tests}
-use Rattle.std.proofs.lemmas.List.{drop-replicate, take_at, take_all, length-replicate}
+use Rattle.std.proofs.lemmas.List.{take_all}
 use Rattle.elem.specs.Lexing.{lexed}
 use Rattle.fn_lang.specs.declared.names.Sort.{Sort}
 use Rattle.fn_lang.specs.declared.steps.Want.TheVariants as wants
@@ -15,28 +15,12 @@ use Rattle.fn_lang.specs.Grammar.{is_padded}
 use Rattle.fn_lang.specs.Reading.{parse_all, parts_of, reading}
 use Rattle.fn_lang.proofs.FoundLaws.{Reads, some_parts, parsed_reads}
 use Rattle.fn_lang.specs.declared.parts.Part.{Part}
-use Rattle.fn_lang.specs.declared.values.Flat.{Flat}
-use Rattle.fn_lang.specs.Flat.{blank, flat_of, IsFlat, IsSort, IsPred, IsPairPred, IsFunc, pred_whole, pair_whole, func_whole}
+use Rattle.fn_lang.specs.Flat.{IsSort, IsPred, IsPairPred, IsFunc}
 use Rattle.elem.specs.declared.elements.Elem.{Elem}
 use Rattle.fn_lang.specs.PartTrees.{pred_of, pair_of, func_of, pred_of-parts, pair_of-parts, func_of-parts}
 use Rattle.fn_lang.specs.Trees.{PredTree, PairTree, FuncTree, pred_parts, pair_parts, func_parts}
 use Rattle.fn_lang.specs.Meaning.{pred_holds, pair_holds, func_value, HoldsAlong, PairHoldsAlong, GivesAlong}
 use Rattle.fn_lang.proofs.TreeLaws.{along_all, pair_all, gives_all}
-
-pub blanks_made : (new ps : List Part) → new ≡ ps → record { parts = new ++ drop (length ps) (replicate 64 blank); len = length ps } ≡ flat_of ps
-blanks_made new ps e =
-    let rest : drop {A = Part} (length ps) (replicate 64 blank) ≡ replicate (64 - length ps) blank = drop-replicate (length ps) 64 blank in
-    rw (e, rest) refl
-
-pub flat_made : (stands : List Part → Type 0) (f : Flat) (ps : List Part) → f ≡ flat_of ps → length ps ≤ 64 → stands ps → IsFlat stands f.len f.parts
-flat_made stands f ps e short is =
-    let front : take (length ps) (ps ++ replicate (64 - length ps) blank) ≡ ps = take_at ps (replicate (64 - length ps) blank) (length ps) refl in
-    rw e (record {
-      within = short;
-      whole = omega (arith, length-append ps (replicate (64 - length ps) blank), length-replicate {A = Part} (64 - length ps) blank);
-      tree = rw front is;
-      blanks = rw front refl;
-    })
 
 short_parts : (xs ps : List Part) → xs ≡ take 64 ps → length ps ≤ 64 → xs ≡ ps
 short_parts xs ps e h = e ∙ take_all 64 ps h
@@ -77,20 +61,6 @@ parsed_is s (Some xs) ps h = is_sort s ps (kinds_of xs) (parsed_reads s (kinds_o
 
 pub reading_sort : (s : Sort) (text : List ℕ) (xs ps : List Part) → parse_all false (wants.Tree s ∷ []) (lexed text) ≡ Some ps → xs ≡ take 64 ps → length ps ≤ 64 → IsSort s xs
 reading_sort s text xs ps e k h = sort_as s xs ps (short_parts xs ps k h) (parsed_is s (lexed text) ps e)
-
--- ---- an array that holds the parts of a tree holds that tree
-
-parts_kept : (f : Flat) (ps : List Part) → f ≡ flat_of ps → take f.len f.parts ≡ ps
-parts_kept f ps e = rw e (take_at ps (replicate (64 - length ps) blank) (length ps) refl)
-
-pub pred_kept : (f : Flat) (ps : List Part) → f ≡ flat_of ps → IsPred ps → pred_parts (pred_of (take f.len f.parts)) ≡ ps
-pred_kept f ps e is = ap (λ (qs : List Part). pred_parts (pred_of qs)) (parts_kept f ps e) ∙ pred_whole ps is
-
-pub pair_kept : (f : Flat) (ps : List Part) → f ≡ flat_of ps → IsPairPred ps → pair_parts (pair_of (take f.len f.parts)) ≡ ps
-pair_kept f ps e is = ap (λ (qs : List Part). pair_parts (pair_of qs)) (parts_kept f ps e) ∙ pair_whole ps is
-
-pub func_kept : (f : Flat) (ps : List Part) → f ≡ flat_of ps → IsFunc ps → func_parts (func_of (take f.len f.parts)) ≡ ps
-func_kept f ps e is = ap (λ (qs : List Part). func_parts (func_of qs)) (parts_kept f ps e) ∙ func_whole ps is
 
 -- ---- what is found along the parts is the meaning of the tree that they are
 

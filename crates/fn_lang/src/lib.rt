@@ -7,6 +7,7 @@
 mod eval;
 mod faults;
 mod leaves;
+mod lent;
 mod names;
 mod parts;
 mod readers;
@@ -18,6 +19,7 @@ mod values;
 
 pub use faults::FnFault;
 pub use leaves::{Map, Test};
+pub use lent::{FuncRef, PairPredRef, PredRef};
 pub use parts::Part;
 pub use readers::{read_func, read_pair_pred, read_pred};
 pub use values::{Func, PairPred, Pred};

@@ -16,7 +16,7 @@ fn pred_of(text: &[u8]) -> Result<Pred, FnFault>
     ensures { with_parts pred_parts result ≡ reading sorts.Pred text.now }
 {
     match read_parts(text, Sort::Pred) {
-        Ok(parts) => Ok(Pred::of_parts(parts.as_slice())),
+        Ok(parts) => Ok(Pred::of_parts(parts)),
         Err(fault) => Err(fault),
     }
 }
@@ -26,7 +26,7 @@ fn pair_pred_of(text: &[u8]) -> Result<PairPred, FnFault>
     ensures { with_parts pair_parts result ≡ reading sorts.PairPred text.now }
 {
     match read_parts(text, Sort::PairPred) {
-        Ok(parts) => Ok(PairPred::of_parts(parts.as_slice())),
+        Ok(parts) => Ok(PairPred::of_parts(parts)),
         Err(fault) => Err(fault),
     }
 }
@@ -36,7 +36,7 @@ fn func_of(text: &[u8]) -> Result<Func, FnFault>
     ensures { with_parts func_parts result ≡ reading sorts.Func text.now }
 {
     match read_parts(text, Sort::Func) {
-        Ok(parts) => Ok(Func::of_parts(parts.as_slice())),
+        Ok(parts) => Ok(Func::of_parts(parts)),
         Err(fault) => Err(fault),
     }
 }

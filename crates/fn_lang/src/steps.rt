@@ -11,6 +11,8 @@ use elem::{Sign, Token, element};
 /// What is still to come.
 #[derive(Clone, Copy, Debug)]
 pub enum Want {
+    /// A closing bracket. It stands first, so that its bytes are zeros and a stack of them is cleared in one go.
+    Close,
     /// A predicate or function.
     Tree(Sort),
     /// An opening bracket, and these behind it.
@@ -21,8 +23,6 @@ pub enum Want {
     OpenGiven(Given),
     /// What is given to the name.
     Given(Given),
-    /// A closing bracket.
-    Close,
 }
 
 impl Default for Want {

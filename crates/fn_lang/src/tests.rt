@@ -37,7 +37,7 @@ fn reads_predicates(rt: HostRuntime) {
         ("not ( any() )", Elem::Int(1), false),
     ] {
         match read_pred(text.as_bytes()) {
-            Ok(pred) => assert!(rt; pred.eval(item) == wanted, "{text}"),
+            Ok(pred) => assert!(rt; pred.lend().eval(item) == wanted, "{text}"),
             Err(fault) => assert!(rt; false, "{text}: {fault}"),
         }
     }
@@ -53,7 +53,10 @@ fn reads_predicates_on_pairs(rt: HostRuntime) {
         ("not(or(key(odd), value(isInt())))", true),
     ] {
         match read_pair_pred(text.as_bytes()) {
-            Ok(pred) => assert!(rt; pred.eval(Elem::Int(2), word("ab")) == wanted, "{text}"),
+            Ok(pred) => assert!(rt;
+                pred.lend().eval(Elem::Int(2), word("ab")) == wanted,
+                "{text}"
+            ),
             Err(fault) => assert!(rt; false, "{text}: {fault}"),
         }
     }
@@ -84,7 +87,7 @@ fn reads_functions(rt: HostRuntime) {
         ),
     ] {
         match read_func(text.as_bytes()) {
-            Ok(func) => assert!(rt; func.eval(item) == wanted, "{text}"),
+            Ok(func) => assert!(rt; func.lend().eval(item) == wanted, "{text}"),
             Err(fault) => assert!(rt; false, "{text}: {fault}"),
         }
     }
@@ -149,7 +152,7 @@ fn nested(depth: usize) -> ArrayVec<u8, 1024> {
 #[test]
 fn counts_the_parts(rt: HostRuntime) {
     match read_pred(nested(63).as_slice()) {
-        Ok(pred) => assert!(rt; !pred.eval(Elem::Int(1)), "64 parts"),
+        Ok(pred) => assert!(rt; !pred.lend().eval(Elem::Int(1)), "64 parts"),
         Err(fault) => assert!(rt; false, "64 parts: {fault}"),
     }
     assert!(rt;

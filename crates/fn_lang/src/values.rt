@@ -1,170 +1,129 @@
-//! Predicates and functions as values.
+//! Predicates and functions as they were read.
 ghost use Rattle.std.specs.Prelude.{◌≡◌, ◌≤◌, length};
-ghost use Rattle.fn_lang.specs.Flat.{flat_of, IsPred, IsPairPred, IsFunc};
+ghost use Rattle.fn_lang.specs.Flat.{IsPred, IsPairPred, IsFunc};
 ghost use Rattle.fn_lang.specs.Trees.{pred_parts, pair_parts, func_parts};
-ghost use Rattle.fn_lang.specs.Meaning.{pred_holds, pair_holds, func_value};
 
-use crate::eval::{apply, holds, pair_holds};
-use crate::leaves::Test;
+use crate::lent::{FuncRef, PairPredRef, PredRef};
 use crate::parts::Part;
-use elem::Elem;
+use arrayvec::ArrayVec;
 use std::marker::Model;
 
-/// A list of at most 64 parts.
-#[derive(Clone, Copy, Debug)]
-struct Flat {
-    // The parts past the length are `any`.
-    parts: [Part; 64],
-    len: usize,
-}
-
 /// A predicate of at most 64 parts. Contracts see its tree.
-#[derive(Clone, Copy, Debug)]
+#[derive(Debug, Drop)]
 pub struct Pred {
-    flat: Flat,
+    parts: ArrayVec<Part, 64>,
 }
 
-/// A predicate on pairs of a key and a value, of at most 64 parts. Contracts see its tree.
-#[derive(Clone, Copy, Debug)]
+/// A predicate on pairs of a key and a value of at most 64 parts. Contracts see its tree.
+#[derive(Debug, Drop)]
 pub struct PairPred {
-    flat: Flat,
+    parts: ArrayVec<Part, 64>,
 }
 
 /// A function of at most 64 parts. Contracts see its tree.
-#[derive(Clone, Copy, Debug)]
+#[derive(Debug, Drop)]
 pub struct Func {
-    flat: Flat,
+    parts: ArrayVec<Part, 64>,
 }
 
 impl Model for Pred {
-    ghost use Rattle.std.specs.Prelude.{take};
-    ghost use Rattle.fn_lang.specs.Trees.{PredTree, pred_parts};
+    ghost use Rattle.std.specs.Prelude.{◌≤◌, length};
+    ghost use Rattle.fn_lang.specs.Trees.{PredTree};
     ghost use Rattle.fn_lang.specs.PartTrees.{pred_of, pred_code};
 
     ghost Value = { PredTree };
 
     ghost coded = { pred_code };
 
-    ghost use Rattle.fn_lang.specs.Flat.{IsFlat, IsPred, flat_of, pred_back};
+    ghost use Rattle.fn_lang.specs.Flat.{IsPred};
 
-    ghost view = { λ p. pred_of (take p.flat.len p.flat.parts) };
+    ghost view = { λ p. pred_of p.parts.items };
 
-    ghost invariant = { λ p. IsFlat IsPred p.flat.len p.flat.parts };
-
-    ghost inverse = { λ t. record { flat = flat_of (pred_parts t) } };
-
-    ghost inverse_ok = { λ p flat. pred_back p flat };
+    ghost invariant = { λ p. IsPred p.parts.items × (length p.parts.items ≤ 64) };
 }
 
 impl Model for PairPred {
-    ghost use Rattle.std.specs.Prelude.{take};
-    ghost use Rattle.fn_lang.specs.Trees.{PairTree, pair_parts};
+    ghost use Rattle.std.specs.Prelude.{◌≤◌, length};
+    ghost use Rattle.fn_lang.specs.Trees.{PairTree};
     ghost use Rattle.fn_lang.specs.PartTrees.{pair_of, pair_code};
 
     ghost Value = { PairTree };
 
     ghost coded = { pair_code };
 
-    ghost use Rattle.fn_lang.specs.Flat.{IsFlat, IsPairPred, flat_of, pair_back};
+    ghost use Rattle.fn_lang.specs.Flat.{IsPairPred};
 
-    ghost view = { λ p. pair_of (take p.flat.len p.flat.parts) };
+    ghost view = { λ p. pair_of p.parts.items };
 
-    ghost invariant = { λ p. IsFlat IsPairPred p.flat.len p.flat.parts };
-
-    ghost inverse = { λ t. record { flat = flat_of (pair_parts t) } };
-
-    ghost inverse_ok = { λ p flat. pair_back p flat };
+    ghost invariant = { λ p. IsPairPred p.parts.items × (length p.parts.items ≤ 64) };
 }
 
 impl Model for Func {
-    ghost use Rattle.std.specs.Prelude.{take};
-    ghost use Rattle.fn_lang.specs.Trees.{FuncTree, func_parts};
+    ghost use Rattle.std.specs.Prelude.{◌≤◌, length};
+    ghost use Rattle.fn_lang.specs.Trees.{FuncTree};
     ghost use Rattle.fn_lang.specs.PartTrees.{func_of, func_code};
 
     ghost Value = { FuncTree };
 
     ghost coded = { func_code };
 
-    ghost use Rattle.fn_lang.specs.Flat.{IsFlat, IsFunc, flat_of, func_back};
+    ghost use Rattle.fn_lang.specs.Flat.{IsFunc};
 
-    ghost view = { λ p. func_of (take p.flat.len p.flat.parts) };
+    ghost view = { λ p. func_of p.parts.items };
 
-    ghost invariant = { λ p. IsFlat IsFunc p.flat.len p.flat.parts };
-
-    ghost inverse = { λ t. record { flat = flat_of (func_parts t) } };
-
-    ghost inverse_ok = { λ p flat. func_back p flat };
+    ghost invariant = { λ p. IsFunc p.parts.items × (length p.parts.items ≤ 64) };
 }
 
 impl Pred {
     /// The value with these parts.
-    pub(crate) fn of_parts(parts: &[Part]) -> Pred
-        requires fits { length parts.now ≤ 64 }
-        requires tree { IsPred parts.now }
-        ensures { pred_parts result ≡ parts.now }
+    pub(crate) fn of_parts(parts: ArrayVec<Part, 64>) -> Pred
+        requires { IsPred parts.items }
+        ensures { pred_parts result ≡ parts.items }
     {
-        Pred {
-            flat: with_blanks(parts),
-        }
+        let _len = parts.as_slice().len();
+        Pred { parts }
     }
 
-    /// Whether the predicate holds for an element.
-    pub fn eval(&self, x: Elem) -> bool
-        ensures { result ≡ pred_holds self.now x }
+    /// The same, by reference.
+    pub fn lend(&self) -> PredRef<'_>
+        ensures { result ≡ self.now }
     {
-        let (truth, _) = holds(&self.flat.parts[..self.flat.len], x);
-        truth
+        PredRef::of_parts(self.parts.as_slice())
     }
 }
 
 impl PairPred {
     /// The value with these parts.
-    pub(crate) fn of_parts(parts: &[Part]) -> PairPred
-        requires fits { length parts.now ≤ 64 }
-        requires tree { IsPairPred parts.now }
-        ensures { pair_parts result ≡ parts.now }
+    pub(crate) fn of_parts(parts: ArrayVec<Part, 64>) -> PairPred
+        requires { IsPairPred parts.items }
+        ensures { pair_parts result ≡ parts.items }
     {
-        PairPred {
-            flat: with_blanks(parts),
-        }
+        let _len = parts.as_slice().len();
+        PairPred { parts }
     }
 
-    /// Whether the predicate holds for a key and a value.
-    pub fn eval(&self, k: Elem, v: Elem) -> bool
-        ensures { result ≡ pair_holds self.now k v }
+    /// The same, by reference.
+    pub fn lend(&self) -> PairPredRef<'_>
+        ensures { result ≡ self.now }
     {
-        let (truth, _) = pair_holds(&self.flat.parts[..self.flat.len], k, v);
-        truth
+        PairPredRef::of_parts(self.parts.as_slice())
     }
 }
 
 impl Func {
     /// The value with these parts.
-    pub(crate) fn of_parts(parts: &[Part]) -> Func
-        requires fits { length parts.now ≤ 64 }
-        requires tree { IsFunc parts.now }
-        ensures { func_parts result ≡ parts.now }
+    pub(crate) fn of_parts(parts: ArrayVec<Part, 64>) -> Func
+        requires { IsFunc parts.items }
+        ensures { func_parts result ≡ parts.items }
     {
-        Func {
-            flat: with_blanks(parts),
-        }
+        let _len = parts.as_slice().len();
+        Func { parts }
     }
 
-    /// The value of the function for an element.
-    pub fn eval(&self, x: Elem) -> Elem
-        ensures { result ≡ func_value self.now x }
+    /// The same, by reference.
+    pub fn lend(&self) -> FuncRef<'_>
+        ensures { result ≡ self.now }
     {
-        let (value, _) = apply(&self.flat.parts[..self.flat.len], x);
-        value
+        FuncRef::of_parts(self.parts.as_slice())
     }
-}
-
-fn with_blanks(parts: &[Part]) -> Flat
-    requires { length parts.now ≤ 64 }
-    ensures { result ≡ flat_of parts.now }
-{
-    let mut array = [Part::Test(Test::Any); 64];
-    let len = parts.len();
-    array[..len].copy_from_slice(parts);
-    Flat { parts: array, len }
 }

@@ -1,13 +1,15 @@
 //! Guava's mutable value graphs as a list of nodes and a list of edges. Both stand in the order in which they were first
 //! put, and what is put again keeps its place.
+//!
+//! `degrees` keeps what each node counts, and `halves` an edge at both its ends, for other rows of nodes and edges too.
 #![tactic(auto)]
 
-mod degrees;
+pub mod degrees;
 mod edge_row;
 mod edge_rows;
 mod faults;
 mod graph_edits;
-mod halves;
+pub mod halves;
 #[cfg(test)]
 mod tests;
 mod value_graph_rows;

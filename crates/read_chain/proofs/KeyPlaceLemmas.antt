@@ -1,6 +1,7 @@
 -- Where the first hit of a key stands.
-use Rattle.std.proofs.Common.{◌≡◌, ℕ, Bool, true, cond, List, [], ◌∷◌, map, ap, sym, ◌∙◌, subst, arith}
-use Rattle.std.specs.Prelude.{filter, Some, None}
+use Rattle.std.proofs.Common.{◌≡◌, ℕ, Bool, true, cond, ◌&&◌, List, [], ◌∷◌, map, ap, sym, ◌∙◌, subst, arith}
+use Rattle.std.specs.Prelude.{filter, option_map, slice_get, Option, Some, None}
+use Rattle.std.specs.Option.{option_to_list}
 use Rattle.std.proofs.lemmas.Option.{same_Some, slice_get_within}
 use Rattle.elem.specs.declared.elements.Elem.{Elem}
 use Rattle.read_chain.specs.Reads.{StandsAt}
@@ -9,12 +10,17 @@ use Rattle.view_steps.specs.declared.lanes.Lane.TheVariants.{OfKey}
 use Rattle.view_steps.specs.declared.places.Found.{Found}
 use Rattle.view_steps.specs.declared.places.Place.TheVariants.{Key}
 use Rattle.view_steps.specs.Answering.{first_hit, is_hit, rows_of_first}
-use Rattle.view_steps.specs.Answers.{has_key}
+use Rattle.view_steps.specs.Answers.{has_key, value_shown}
+use Rattle.view_steps.specs.Items.{value_of}
 use Rattle.view_steps.specs.Lanes.{IsStraight}
 use Rattle.view_steps.specs.Places.{found_in, places, HasKeys, IsRowAt}
-use Rattle.view_steps.specs.Views.{World, View, Candidate, base_at, base_under, candidates}
+use Rattle.view_steps.specs.Views.{World, View, Candidate, base_at, base_under, candidates, is_seen, item_in}
 use Rattle.view_steps.proofs.StandLemmas.{count_law, stand_law}
-use Rattle.view_steps.proofs.MemberLemmas.{in_kept}
+use Rattle.read_chain.proofs.LookUpLemmas.{seen_item, shown_of_one}
+use Rattle.read_chain.proofs.WalkLemmas.{shown_found}
+use Rattle.view_steps.proofs.KeyLemmas.{find_one}
+use Rattle.view_steps.proofs.ListLemmas.{and-true}
+use Rattle.view_steps.proofs.MemberLemmas.{in_kept, passes_filter}
 use Rattle.view_steps.proofs.PlaceLemmas.{place_in_base}
 use Rattle.view_steps.proofs.ListViews.{IsThere, candidate_there}
 use Rattle.view_steps.proofs.HitLemmas.{found_hit, of_key, found_of_key, hit_passes, first_of_key, alone}
@@ -40,3 +46,17 @@ key_hit world v passes k d keys s imply one hit =
       place = place_in_base world v (Key k) (here.index, here.place);
       row = subst (λ (ns : List ℕ). IsRowAt (base_at world (base_under v)).rows (Key k) ns) (sym first) stands.1;
     }
+
+-- what a look-up found has the key
+pub has_that_key : (k : Elem) (ds : List Found) (d : Found) → filter (λ (e : Found). has_key k e.item) ds ≡ d ∷ [] → has_key k d.item ≡ true
+has_that_key k ds d one = passes_filter (λ (e : Found). has_key k e.item) ds d 0 (ap (λ (es : List Found). slice_get es 0) one)
+
+pub seen_hit : (k : Elem) (ds : List Found) (d : Found) (t : Bool) → filter (λ (e : Found). has_key k e.item) ds ≡ d ∷ [] → d.seen ≡ t → found_hit (has_key k) d ≡ t
+seen_hit k ds d t one seen = (λ i. seen i && has_that_key k ds d one i) ∙ and-true t
+
+-- the value shown at a key, by what a look-up found there
+pub value_found : (k : Elem) (cs : List Candidate) (o : Option Found) → filter (λ (e : Found). has_key k e.item) (map found_in cs) ≡ option_to_list o
+    → value_shown (map item_in (filter is_seen cs)) k ≡ option_map value_of (seen_item o)
+value_found k cs o one =
+    ap (option_map value_of)
+    (find_one (has_key k) (map item_in (filter is_seen cs)) (seen_item o) (ap (filter (has_key k)) (shown_found cs) ∙ shown_of_one (has_key k) (map found_in cs) o one))

@@ -36,6 +36,10 @@ impl RowTest for ItemTest {
             ItemTest::OfValue(v) => same(v, &value_of(item)),
         }
     }
+
+    fn takes_all(&self) -> bool {
+        matches!(self, ItemTest::Any)
+    }
 }
 
 /// Whether what is found is seen, and its item passes.

@@ -19,7 +19,7 @@ pub fn item_index(store: &Store, n: AnyRef, size: usize, i: usize) -> usize
     match store.node(n) {
         Node::Base(_) => i,
         Node::Step { step, parent } => {
-            item_index(store, parent, size, item_index_over(step, size, i))
+            item_index(store, parent, size, item_index_over(&step, size, i))
         }
     }
 }
@@ -34,7 +34,7 @@ pub fn gap_index(store: &Store, n: AnyRef, size: usize, i: usize) -> usize
     match store.node(n) {
         Node::Base(_) => i,
         Node::Step { step, parent } => {
-            gap_index(store, parent, size, gap_index_over(step, size, i))
+            gap_index(store, parent, size, gap_index_over(&step, size, i))
         }
     }
 }

@@ -1,9 +1,9 @@
 //! The place of an item by its key: one call of the base.
-ghost use Rattle.std.specs.Prelude.{◌≡◌, ◌<◌, ◌≤◌, ◌+◌, length, true, IfNone, IfSome, []};
+ghost use Rattle.std.specs.Prelude.{◌≡◌, ◌<◌, ◌≤◌, ◌+◌, length, true, IfNone, IfSome, [], option_map};
 ghost use Rattle.base_store.specs.Stored.{view_in};
-ghost use Rattle.read_chain.specs.Reads.{StandsAt};
+ghost use Rattle.read_chain.specs.Reads.{shown_in, StandsAt};
 ghost use Rattle.view_steps.specs.Answering.{first_hit};
-ghost use Rattle.view_steps.specs.Answers.{has_key};
+ghost use Rattle.view_steps.specs.Answers.{has_key, value_shown};
 ghost use Rattle.view_steps.specs.Items as items;
 ghost use Rattle.view_steps.specs.Shapes.{is_keyed};
 ghost use Rattle.view_steps.specs.Views.{candidates, shape_at};
@@ -14,7 +14,7 @@ use crate::look_ups::{goes_by_key, look_up};
 use base_store::{AnyRef, RowTest, Store};
 use elem::{Elem, Steps};
 use std::sync::ledger::Ledger;
-use view_steps::{Item, Place, key_of};
+use view_steps::{Item, Place, key_of, value_of};
 
 /// The place of the first item that is the same. In a set or a set of entries it asks the base once at most.
 pub fn place_of<L: Ledger>(
@@ -35,20 +35,31 @@ pub fn place_of<L: Ledger>(
     }
 }
 
-/// The place of the item shown at a key. It asks the base once at most.
-pub fn place_of_key<L: Ledger>(
+/// The place of the item shown at a key, and the value in it. It asks the base once at most.
+pub fn place_and_value<L: Ledger>(
     store: &Store,
     n: AnyRef,
     k: &Elem,
     steps: &mut Steps<L>,
-) -> Option<Place>
+) -> Option<(Place, Elem)>
     requires node { n < length store.now.nodes }
     requires keyed { is_keyed (shape_at store.now.world (view_in store.now n)) ≡ true }
     ensures none { IfNone result (first_hit (has_key k.now) (candidates store.now.world (view_in store.now n)) ≡ []) }
-    ensures some { IfSome result (λ p. StandsAt store.now.world (view_in store.now n) p (first_hit (has_key k.now) (candidates store.now.world (view_in store.now n)))) }
+    ensures some { IfSome result (λ found. StandsAt store.now.world (view_in store.now n) found.0 (first_hit (has_key k.now) (candidates store.now.world (view_in store.now n)))) }
+    ensures value { option_map (λ found. found.1) result ≡ value_shown (shown_in store.now n) k.now }
     ensures step { steps.new ≤ steps.old + 1 }
 {
-    place_at_key(store, n, k, &ItemTest::OfKey(*k), steps)
+    let _base = store.base_of(n);
+    match look_up(store, n, k, steps) {
+        Some(found) => {
+            if found.seen {
+                Some((Place::Key(*k), value_of(&found.item)))
+            } else {
+                None
+            }
+        }
+        None => None,
+    }
 }
 
 /// The place of the item that is shown at a key and passes a test, which items of no other key pass.

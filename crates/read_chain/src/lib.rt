@@ -16,8 +16,8 @@ mod walks;
 
 pub use finding::{ItemTest, find, find_place};
 pub use indexes::{gap_index, item_index, place_of_item};
-pub use key_places::{place_of, place_of_key};
-pub use look_ups::look_up;
+pub use key_places::{place_and_value, place_of};
+pub use look_ups::{goes_by_key, look_up};
 pub use making::make_view;
 pub use reading::read;
 pub use reads::{

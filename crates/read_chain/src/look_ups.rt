@@ -42,9 +42,9 @@ fn find_key<L: Ledger>(store: &Store, n: AnyRef, k: &Elem, steps: &mut Steps<L>)
             }),
             None => None,
         },
-        Node::Step { step, parent } => match key_below(step, k) {
+        Node::Step { step, parent } => match key_below(&step, k) {
             Some(below) => match find_key(store, parent, &below, steps) {
-                Some(found) => Some(found_over(step, &found)),
+                Some(found) => Some(found_over(&step, &found)),
                 None => None,
             },
             None => None,
@@ -83,7 +83,7 @@ pub(crate) fn shown_at_key<L: Ledger>(
 }
 
 /// Whether no two items of a view of the shape have the same key.
-pub(crate) fn goes_by_key(shape: Shape) -> bool
+pub fn goes_by_key(shape: Shape) -> bool
     ensures { result ≡ is_keyed shape }
 {
     matches!(

@@ -27,8 +27,8 @@ pub(crate) fn next_place<L: Ledger>(
 {
     match store.node(n) {
         Node::Base(b) => store.next_place(b, lane, back, from, steps),
-        Node::Step { step, parent } => match narrow(step, lane) {
-            Some(below) => next_place(store, parent, &below, flipped(step, back), from, steps),
+        Node::Step { step, parent } => match narrow(&step, lane) {
+            Some(below) => next_place(store, parent, &below, flipped(&step, back), from, steps),
             None => None,
         },
     }
@@ -44,7 +44,7 @@ pub(crate) fn found_of_row(store: &Store, n: AnyRef, row: &Item) -> Found
             item: *row,
             seen: true,
         },
-        Node::Step { step, parent } => found_over(step, &found_of_row(store, parent, row)),
+        Node::Step { step, parent } => found_over(&step, &found_of_row(store, parent, row)),
     }
 }
 

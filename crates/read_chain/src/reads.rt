@@ -28,7 +28,7 @@ fn shows_all(store: &Store, n: AnyRef) -> bool
     match store.node(n) {
         Node::Base(_) => true,
         Node::Step { step, parent } => {
-            !matches!(family_of(step), Family::Hidden | Family::Cut) && shows_all(store, parent)
+            !matches!(family_of(&step), Family::Hidden | Family::Cut) && shows_all(store, parent)
         }
     }
 }

@@ -1,6 +1,8 @@
 -- One word after another leads where all of them lead.
-use Rattle.std.proofs.Common.{IfSome, IsSome, is_some, ◌≡◌, ◌≢◌, ℕ, ◌+◌, ◌-◌, ◌<◌, ◌≤◌, ◌==◌, Bool, true, false, List, [], ◌∷◌, ◌++◌, length, take, drop, get_or, Option, None, Some, Result, Ok, Err, IfOk, OnOk, OnErr, cond, refl, sym, ◌∙◌, ap, subst, arith, length-append}
+use Rattle.std.proofs.Common.{IfSome, IsSome, is_some, ◌≡◌, ◌≢◌, ℕ, ◌+◌, ◌-◌, ◌<◌, ◌≤◌, ◌==◌, Bool, true, false, List, [], ◌∷◌, ◌++◌, length, take, drop, get_or, Option, None, Some, Result, Ok, Err, IfOk, OnOk, OnErr, cond, refl, sym, ◌∙◌, ap, subst, inl, inr, arith, length-append}
 use Rattle.std.specs.Result.{IsOk}
+use Rattle.std.specs.Prelude.{◌⊎◌}
+use Rattle.std.proofs.lemmas.Bool.{cases_lt}
 use Rattle.std.proofs.lemmas.List.{take-append-le}
 use Rattle.std.proofs.lemmas.Bool.Decides.{nat_tests}
 use Rattle.base_store.specs.declared.store.Made.{Made}
@@ -69,12 +71,18 @@ steps_made s now node step (Err why) refusal number view grown err = (
   refusal_said s.world (view_in s node) step why (sym refusal),
 )
 
-pub steps_refused : (s : Stored) (node : ℕ) (step : Step) (why : Refusal) → step_refusal s.world (view_in s node) step ≡ Some why → (s ≡ s) × (step_over s.world (view_in s node) (Ok step) ≡ Err why) × (why ≢ NoMemory)
-steps_refused s node step why refusal = (
-  refl,
-  ap (λ (o : Option Refusal). unless_refused o (Ok (over (kept s.world (view_in s node) step) (view_in s node)))) refusal,
-  refusal_said s.world (view_in s node) step why refusal,
-)
+-- there is room for a step, or the path is at its longest
+pub room_or_long : (s : Stored) (node : ℕ) → length s.nodes ≤ s.lasting + path (view_in s node) → (length s.nodes < s.lasting + 32) ⊎ (32 ≤ path (view_in s node))
+room_or_long s node room =
+    elim (cases_lt (path (view_in s node)) 32) [
+      | inl lt ↦ inl (omega (arith, room, lt))
+      | inr le ↦ inr le
+    ]
+
+-- what was made of the parts that were read
+pub read_made : (s now : Stored) (node : ℕ) (make : List FnPart → Step) (read : Result (List FnPart) FnFault) (parts : List FnPart) (it : Step) (r : Result ℕ Refusal) → Ok parts ≡ read → make parts ≡ it → Steps s now node (Ok it) r
+    → IfSome (of_parts make read) (λ x. Steps s now node x r)
+read_made s now node make read parts it r is made h = subst (λ (o : Result (List FnPart) FnFault). IfSome (of_parts make o) (λ x. Steps s now node x r)) is (subst (λ (x : Step). Steps s now node (Ok x) r) (sym made) h)
 
 -- ---- the shape that a step gives
 

@@ -1,19 +1,14 @@
 //! Reading the texts of arguments.
-ghost use Rattle.std.specs.Prelude.{◌≡◌, ◌≢◌, ◌≤◌, length, IfErr, IfOk, IfSome, is_some};
-ghost use Rattle.elem.specs.SpanTexts.{checked, span_text};
-ghost use Rattle.fn_lang.specs.PartTrees.{pred_of, pair_of, func_of};
-ghost use Rattle.fn_lang.specs.Reading.{reading};
-ghost use Rattle.fn_lang.specs.declared.names.Sort.TheVariants as sorts;
+ghost use Rattle.std.specs.Prelude.{◌≡◌, ◌≤◌, length, is_some};
 ghost use Rattle.session.specs.Arguments as spec;
-ghost use Rattle.view_steps.specs.Steps.{form_of_step};
-ghost use Rattle.view_steps.specs.declared.refusals.Refusal.TheVariants.{NoMemory};
-ghost use Rattle.view_steps.specs.declared.steps.Step.TheVariants as step;
+ghost use Rattle.view_steps.specs.declared.steps.ChangeStep.{ChangeStep};
+ghost use Rattle.view_steps.specs.declared.steps.FilterStep.{FilterStep};
 ghost use Rattle.view_steps.specs.declared.steps.StepForm.TheVariants as form;
 
-use elem::{SpanFault, Window, Word, read_number, read_span};
+use elem::{SpanFault, Word, read_number, read_span};
 use fn_lang::{FnFault, read_func, read_pair_pred, read_pred};
 use script_text::is_name;
-use view_steps::{ChangeStep, FilterStep, Order, Refusal, Step, StepForm};
+use view_steps::StepForm;
 
 /// The index that a text is: a number of 32 bits. One below zero is the index of nothing.
 pub fn read_index(text: &[u8]) -> Option<Option<usize>>
@@ -43,84 +38,48 @@ pub fn read_name(text: &[u8]) -> Option<Word>
     if is_name(&word) { Some(word) } else { None }
 }
 
-/// A step with its argument, or the refusal of the argument, where the text fits its kind.
-pub fn step_with(form: StepForm, text: &[u8]) -> Option<Result<Step, Refusal>>
-    requires { length text.now ≤ 1024 }
-    ensures step { result ≡ spec.step_with form text.now }
-    ensures form { IfSome result (λ it. IfOk it (λ s. form_of_step s ≡ form)) }
-    ensures refusal { IfSome result (λ it. IfErr it (λ why. why ≢ NoMemory)) }
-{
-    match form {
-        StepForm::Plain(word) => Some(Ok(Step::Plain(word))),
-        StepForm::Filter(word) => filter_step(word, text),
-        StepForm::FilterPairs => pair_filter_step(text),
-        StepForm::Change(word) => change_step(word, text),
-        StepForm::Within => within_step(text),
-    }
-}
-
-/// Whether a text fits the argument of a step. What is read of it ends here: a step is large, and lives in no function that
-/// a call goes through.
+/// Whether a text fits the argument of a step.
 pub fn fits_step(form: StepForm, text: &[u8]) -> bool
     requires { length text.now ≤ 1024 }
     ensures { result ≡ is_some (spec.step_with form text.now) }
 {
-    step_with(form, text).is_some()
+    match form {
+        StepForm::Plain(_) => true,
+        StepForm::Filter(_) => is_pred(text),
+        StepForm::FilterPairs => is_pair_pred(text),
+        StepForm::Change(_) => is_func(text),
+        StepForm::Within => is_range(text),
+    }
 }
 
-fn filter_step(word: FilterStep, text: &[u8]) -> Option<Result<Step, Refusal>>
+// What is read is large, and ends here: each of these has a frame of its own, which a plain step does not pay for.
+
+#[inline(never)]
+fn is_pred(text: &[u8]) -> bool
     requires { length text.now ≤ 1024 }
-    ensures step { result ≡ spec.of_parts (λ parts. step.Filter word (pred_of parts)) (reading sorts.Pred text.now) }
-    ensures form { IfSome result (λ it. IfOk it (λ s. form_of_step s ≡ form.Filter word)) }
-    ensures refusal { IfSome result (λ it. IfErr it (λ why. why ≢ NoMemory)) }
+    ensures { (word : FilterStep) → result ≡ is_some (spec.step_with (form.Filter word) text.now) }
 {
-    match read_pred(text) {
-        Ok(p) => Some(Ok(Step::Filter(word, p))),
-        Err(FnFault::NotGrammar) => None,
-        Err(FnFault::TooLarge) => Some(Err(Refusal::Limit)),
-    }
+    !matches!(read_pred(text), Err(FnFault::NotGrammar))
 }
 
-fn pair_filter_step(text: &[u8]) -> Option<Result<Step, Refusal>>
+#[inline(never)]
+fn is_pair_pred(text: &[u8]) -> bool
     requires { length text.now ≤ 1024 }
-    ensures step { result ≡ spec.of_parts (λ parts. step.FilterPairs (pair_of parts)) (reading sorts.PairPred text.now) }
-    ensures form { IfSome result (λ it. IfOk it (λ s. form_of_step s ≡ form.FilterPairs)) }
-    ensures refusal { IfSome result (λ it. IfErr it (λ why. why ≢ NoMemory)) }
+    ensures { result ≡ is_some (spec.step_with form.FilterPairs text.now) }
 {
-    match read_pair_pred(text) {
-        Ok(q) => Some(Ok(Step::FilterPairs(q))),
-        Err(FnFault::NotGrammar) => None,
-        Err(FnFault::TooLarge) => Some(Err(Refusal::Limit)),
-    }
+    !matches!(read_pair_pred(text), Err(FnFault::NotGrammar))
 }
 
-fn change_step(word: ChangeStep, text: &[u8]) -> Option<Result<Step, Refusal>>
+#[inline(never)]
+fn is_func(text: &[u8]) -> bool
     requires { length text.now ≤ 1024 }
-    ensures step { result ≡ spec.of_parts (λ parts. step.Change word (func_of parts)) (reading sorts.Func text.now) }
-    ensures form { IfSome result (λ it. IfOk it (λ s. form_of_step s ≡ form.Change word)) }
-    ensures refusal { IfSome result (λ it. IfErr it (λ why. why ≢ NoMemory)) }
+    ensures { (word : ChangeStep) → result ≡ is_some (spec.step_with (form.Change word) text.now) }
 {
-    match read_func(text) {
-        Ok(f) => Some(Ok(Step::Change(word, f))),
-        Err(FnFault::NotGrammar) => None,
-        Err(FnFault::TooLarge) => Some(Err(Refusal::Limit)),
-    }
+    !matches!(read_func(text), Err(FnFault::NotGrammar))
 }
 
-fn within_step(text: &[u8]) -> Option<Result<Step, Refusal>>
-    ensures step { result ≡ spec.within_range (checked (span_text text.now)) }
-    ensures form { IfSome result (λ it. IfOk it (λ s. form_of_step s ≡ form.Within)) }
-    ensures refusal { IfSome result (λ it. IfErr it (λ why. why ≢ NoMemory)) }
+fn is_range(text: &[u8]) -> bool
+    ensures { result ≡ is_some (spec.step_with form.Within text.now) }
 {
-    match read_span(text) {
-        Ok(range) => {
-            let window = Window {
-                lo: range.lo,
-                hi: range.hi,
-            };
-            Some(Ok(Step::Within(Order::Natural, window)))
-        }
-        Err(SpanFault::NotGrammar) => None,
-        Err(SpanFault::Invalid) => Some(Err(Refusal::IllegalArgument)),
-    }
+    !matches!(read_span(text), Err(SpanFault::NotGrammar))
 }

@@ -1,26 +1,19 @@
 //! Following the words of an expression, step by step.
-ghost use Rattle.std.specs.Prelude.{◌≡◌, ◌+◌, ◌<◌, ◌≤◌, length, IfSome, IsOk, IsSome, Ok, Some};
+ghost use Rattle.std.specs.Prelude.{◌≡◌, ◌<◌, ◌≤◌, length, IsOk, Ok};
 ghost use Rattle.base_store.specs.Stored.{view_in, without_temporary};
-ghost use Rattle.session.specs.Arguments.{step_with};
 ghost use Rattle.session.specs.Environment.{NamesWithin, named};
-ghost use Rattle.session.specs.Following.{IsEnd, Steps, end_in, node_of, target_in};
+ghost use Rattle.session.specs.Following.{IsEnd, end_in, node_of, target_in};
 ghost use Rattle.session.specs.Parts.{parts_in};
 ghost use Rattle.session.specs.Typing.{typed_words};
-ghost use Rattle.view_steps.specs.KeptSteps.{step_refusal};
-ghost use Rattle.view_steps.specs.Steps.{apply, apply_form};
 ghost use Rattle.view_steps.specs.Views as view;
 
-use crate::arguments::step_with;
+use crate::taking::take_step;
 use crate::typing::{Purpose, Typed, may_call, type_word};
 use base_store::{AnyRef, Store};
 use elem::Word;
 use indexmap::IndexMap;
-use read_chain::make_view;
 use script_text::Part;
-use view_steps::{Call, OnOther, Refusal, Step, StepForm, takes_argument};
-
-/// The longest path of steps.
-const LONGEST_PATH: usize = 32;
+use view_steps::{Call, OnOther, Refusal};
 
 /// What an expression ends in: a view, or a call on one.
 #[derive(Clone, Copy, Debug)]
@@ -86,51 +79,4 @@ pub fn follow(
         }
     }
     Ok(End::View(node))
-}
-
-/// Makes the view of a step with the argument that a text is over a view, unless the argument or the step is refused.
-fn take_step(
-    store: &mut Store,
-    node: AnyRef,
-    form: StepForm,
-    text: &[u8],
-) -> Result<AnyRef, Refusal>
-    requires node { node < length store.old.nodes }
-    requires room { length store.old.nodes ≤ store.old.lasting + view.path (view_in store.old node) }
-    requires given { IsSome (apply_form (view.shape_at store.old.world (view_in store.old node)) form) }
-    requires short { length text.now ≤ 1024 }
-    ensures { IfSome (step_with form text.now) (λ it. Steps store.old store.new node it result) }
-{
-    match step_with(form, text) {
-        Some(Ok(step)) => make_step(store, node, &step),
-        Some(Err(refusal)) => Err(refusal),
-        None => Err(Refusal::Limit),
-    }
-}
-
-/// Makes the view of a step over a view, unless the step is refused.
-fn make_step(store: &mut Store, node: AnyRef, step: &Step) -> Result<AnyRef, Refusal>
-    requires node { node < length store.old.nodes }
-    requires room { length store.old.nodes ≤ store.old.lasting + view.path (view_in store.old node) }
-    requires given { IsSome (apply (view.shape_at store.old.world (view_in store.old node)) step.now) }
-    ensures { Steps store.old store.new node (Ok step.now) result }
-{
-    if store.path(node) < LONGEST_PATH {
-        make_view(store, node, step)
-    } else {
-        Err(refusal_past(store, node, step))
-    }
-}
-
-/// Why a step over a view at the end of the longest path is refused: for its argument, or for the length of the path.
-fn refusal_past(store: &Store, node: AnyRef, step: &Step) -> Refusal
-    requires node { node < length store.now.nodes }
-    requires long { 32 ≤ view.path (view_in store.now node) }
-    ensures { step_refusal store.now.world (view_in store.now node) step.now ≡ Some result }
-{
-    if takes_argument(store.order_of(node), &store.window_of(node), step) {
-        Refusal::Limit
-    } else {
-        Refusal::IllegalArgument
-    }
 }

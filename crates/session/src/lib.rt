@@ -10,6 +10,7 @@ mod following;
 mod printing;
 mod replies;
 mod session;
+mod taking;
 mod typing;
 
 pub use faults::ExecFault;

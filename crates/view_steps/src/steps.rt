@@ -4,7 +4,7 @@ ghost use Rattle.view_steps.specs.Steps as spec;
 
 use crate::Order;
 use elem::Window;
-use fn_lang::{Func, PairPred, Pred};
+use fn_lang::{FuncRef, PairPredRef, PredRef};
 
 /// The steps that take nothing.
 #[derive(Clone, Copy, Debug)]
@@ -55,20 +55,20 @@ pub enum StepForm {
     Within,
 }
 
-/// A step with its arguments.
-#[derive(Clone, Copy, Debug)]
-pub enum Step {
+/// A step with its arguments. The parts of a predicate or a function stand elsewhere.
+#[derive(Debug, Drop)]
+pub enum Step<'a> {
     Plain(PlainStep),
-    Filter(FilterStep, Pred),
+    Filter(FilterStep, PredRef<'a>),
     /// `Maps.filterEntries`: as the other filters.
-    FilterPairs(PairPred),
-    Change(ChangeStep, Func),
+    FilterPairs(PairPredRef<'a>),
+    Change(ChangeStep, FuncRef<'a>),
     /// `NavigableSet.subSet`, `NavigableMap.subMap` and their kin: live; what lies in a window that is read in an
     /// order, written through. What lies outside cannot be added.
     Within(Order, Window),
 }
 
-impl Step {
+impl<'a> Step<'a> {
     /// The step without its argument.
     pub fn form(&self) -> StepForm
         ensures { result ≡ spec.form_of_step self.now }

@@ -1,16 +1,19 @@
 -- Elements that are read from a view, one after another.
-use Rattle.std.proofs.Common.{◌≡◌, Bool, true, false, cond, ◌||◌, List, [], ◌∷◌, ◌++◌, Some, None, refl, sym, ap, ◌∙◌}
+use Rattle.std.proofs.Common.{◌≡◌, Bool, true, false, cond, not, ◌||◌, List, [], ◌∷◌, ◌++◌, Some, None, refl, sym, ap, ◌∙◌}
 use Rattle.std.specs.Prelude.{Result, Ok, Err, OnOk, is_some}
 use Rattle.std.specs.List.{list_any}
 use Rattle.std.specs.Map.{lookup}
 use Rattle.elem.specs.declared.elements.Elem.{Elem}
 use Rattle.elem.specs.declared.outside.NoMemory.{NoMemory}
 use Rattle.elem.specs.Elements.{same}
+use Rattle.elem.specs.Keyed.{value_at}
 use Rattle.elem.specs.ElementLaws.{same-Decides}
 use Rattle.view_steps.specs.declared.items.Item.{Item}
+use Rattle.view_steps.specs.declared.items.Item.TheVariants.{One, Entry}
 use Rattle.view_steps.specs.Answers.{has_key}
 use Rattle.view_steps.specs.Items.{key_of}
-use Rattle.write_chain.specs.Members.{Members, is_member}
+use Rattle.write_chain.specs.declared.members.Among.{Among}
+use Rattle.write_chain.specs.Members.{Members, among_passes, is_among, is_member}
 
 or_swap : (a b : Bool) → a || b ≡ b || a
 or_swap true true = refl
@@ -52,3 +55,11 @@ members_more old new item xs rest x all more takes before =
 pub member_inserted : (result : Result (Unit {0}) NoMemory) (old new : Members) (k : Elem) → OnOk result (new ≡ old ++ (k, tt {0}) ∷ []) → OnOk result ((y : Elem) → is_member new y ≡ same y k || is_member old y)
 member_inserted (Ok done) old new k e = member_added old new k e
 member_inserted (Err none) old new k e = tt
+
+-- an item that is among some elements has one of them as its key
+pub among_key : (test : Among) → test.out ≡ false → (item : Item) → among_passes test item ≡ true → is_some (value_at test.members (key_of item)) ≡ true
+among_key test e item h = by item (sym (ap (λ (b : Bool). cond b (not (is_among test.members item)) (is_among test.members item)) e) ∙ h)
+  where
+    by : (it : Item) → is_among test.members it ≡ true → is_some (value_at test.members (key_of it)) ≡ true
+    by (One x) f = f
+    by (Entry k w) f = absurd (cc)

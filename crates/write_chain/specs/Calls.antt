@@ -1,7 +1,13 @@
 -- What a call leaves.
-use Rattle.std.specs.Prelude.{◌≡◌, ℕ, List, Result, Ok, Err, Some}
+use Rattle.std.specs.Prelude.{◌≡◌, Bool, true, false, ℕ, List, Result, Ok, Err, Some}
 use Rattle.base_store.specs.Stored.{Stored, with_world}
 use Rattle.view_steps.specs.declared.answers.Answer.{Answer}
+use Rattle.view_steps.specs.declared.calls.Call.{Call}
+use Rattle.view_steps.specs.declared.calls.Call.TheVariants as call
+use Rattle.view_steps.specs.declared.calls.OnElement.TheVariants.{Add, Remove, RemoveKey}
+use Rattle.view_steps.specs.declared.calls.OnOther.{OnOther}
+use Rattle.view_steps.specs.declared.calls.OnOther.TheVariants.{ContainsAll}
+use Rattle.view_steps.specs.declared.calls.OnPair.TheVariants.{Put, RemoveEntry}
 use Rattle.view_steps.specs.declared.edits.Spot.{Spot}
 use Rattle.view_steps.specs.declared.items.Item.{Item}
 use Rattle.view_steps.specs.declared.refusals.Refusal.{Refusal}
@@ -14,6 +20,15 @@ use Rattle.view_steps.specs.Views.{World, View, base_under}
 abbrev pub IsRefused : Refusal → Answered → Type 0
 IsRefused NoMemory outcome = Unit {0}
 IsRefused why outcome = outcome ≡ Err why
+
+-- whether a call puts or removes one item, which a view that goes by key finds by its key
+abbrev pub is_single : Call → Bool
+is_single (call.Element Add x) = true
+is_single (call.Element Remove x) = true
+is_single (call.Element RemoveKey k) = true
+is_single (call.Pair Put k w) = true
+is_single (call.Pair RemoveEntry k w) = true
+is_single other = false
 
 -- the answer and the bases that were defined, or the refusal, or want of memory
 abbrev pub Came : Result Answer Refusal → Stored → Stored → Answered → Type 0

@@ -1,5 +1,5 @@
 //! Adding items to a view that allows it.
-ghost use Rattle.std.specs.Prelude.{◌≡◌, ◌<◌, ◌^◌, ◌-◌, ◌∷◌, [], length, true, Err};
+ghost use Rattle.std.specs.Prelude.{◌≡◌, ◌<◌, ◌^◌, ◌-◌, ◌∷◌, [], length, true, Err, ◌≤◌, ◌+◌};
 ghost use Rattle.base_store.specs.BaseRows.{AreRowsOf, IsFree, IsRowOf, IsSpotIn};
 ghost use Rattle.base_store.specs.Stored.{view_in};
 ghost use Rattle.view_steps.specs.Limits.{ChangesUpTo};
@@ -29,6 +29,7 @@ pub(crate) fn add_one<L: Ledger>(
     requires change { ChangesUpTo (2 ^ 63 - 1) store.old.world }
     ensures came { Came result store.old store.new (added store.old.world (view_in store.old n) (item.now ∷ []) spot answer) }
     ensures memory { result ≡ Err NoMemory → adds_rows store.old.world (added store.old.world (view_in store.old n) (item.now ∷ []) spot answer) ≡ true }
+    ensures steps { steps.new ≤ steps.old + 3 }
 {
     if !lifts(store, n, item) {
         return Err(Refusal::IllegalArgument);

@@ -5,11 +5,12 @@ ghost use Rattle.view_steps.specs.Answering.{answered, answered_with};
 ghost use Rattle.view_steps.specs.Calls as spec;
 ghost use Rattle.view_steps.specs.Indexes.{is_list};
 ghost use Rattle.view_steps.specs.Limits.{ChangesUpTo, rows_in, most_rows};
+ghost use Rattle.view_steps.specs.Shapes.{is_keyed};
 ghost use Rattle.view_steps.specs.Steps as table;
 ghost use Rattle.view_steps.specs.Views.{flags_at, shape_at};
 ghost use Rattle.view_steps.specs.declared.calls.Call.TheVariants as calls;
 ghost use Rattle.view_steps.specs.declared.refusals.Refusal.TheVariants.{NoMemory};
-ghost use Rattle.write_chain.specs.Calls.{Came};
+ghost use Rattle.write_chain.specs.Calls.{Came, is_single};
 ghost use Rattle.view_steps.specs.Memory.{adds_rows, wants_memory_with};
 
 use crate::clearing::clear;
@@ -44,6 +45,7 @@ pub fn call<L: Ledger>(
     ensures came { Came result store.old store.new (answered store.old.world (view_in store.old n) call.now) }
     ensures memory { result ≡ Err NoMemory → adds_rows store.old.world (answered store.old.world (view_in store.old n) call.now) ≡ true }
     ensures changes { (most : ℕ) → ChangesUpTo most store.old.world → ChangesUpTo (most + 1) store.new.world }
+    ensures steps { is_single call.now ≡ true → is_keyed (shape_at store.old.world (view_in store.old n)) ≡ true → steps.new ≤ steps.old + 4 }
 {
     let flags = store.flags_of(n);
     if lacks(flags, needs_of(call)) {
@@ -65,6 +67,7 @@ fn carry_out<L: Ledger>(
     requires change { ChangesUpTo (2 ^ 63 - 1) store.old.world }
     ensures came { Came result store.old store.new (answered store.old.world (view_in store.old n) call.now) }
     ensures memory { result ≡ Err NoMemory → adds_rows store.old.world (answered store.old.world (view_in store.old n) call.now) ≡ true }
+    ensures steps { is_single call.now ≡ true → is_keyed (shape_at store.old.world (view_in store.old n)) ≡ true → steps.new ≤ steps.old + 4 }
 {
     match call {
         Call::Ask(word) => on_ask(store, n, *word, steps),
@@ -87,6 +90,7 @@ fn on_ask<L: Ledger>(
     requires change { ChangesUpTo (2 ^ 63 - 1) store.old.world }
     ensures came { Came result store.old store.new (answered store.old.world (view_in store.old n) (calls.Ask word)) }
     ensures memory { result ≡ Err NoMemory → adds_rows store.old.world (answered store.old.world (view_in store.old n) (calls.Ask word)) ≡ true }
+    ensures steps { is_single (calls.Ask word) ≡ true → is_keyed (shape_at store.old.world (view_in store.old n)) ≡ true → steps.new ≤ steps.old + 4 }
 {
     match word {
         Ask::Clear => Ok(clear(store, n, steps)),
@@ -107,6 +111,7 @@ fn on_element<L: Ledger>(
     requires change { ChangesUpTo (2 ^ 63 - 1) store.old.world }
     ensures came { Came result store.old store.new (answered store.old.world (view_in store.old n) (calls.Element word x.now)) }
     ensures memory { result ≡ Err NoMemory → adds_rows store.old.world (answered store.old.world (view_in store.old n) (calls.Element word x.now)) ≡ true }
+    ensures steps { is_single (calls.Element word x.now) ≡ true → is_keyed (shape_at store.old.world (view_in store.old n)) ≡ true → steps.new ≤ steps.old + 4 }
 {
     match word {
         OnElement::Add => add(store, n, x, steps),
@@ -129,6 +134,7 @@ fn on_index<L: Ledger>(
     requires change { ChangesUpTo (2 ^ 63 - 1) store.old.world }
     ensures came { Came result store.old store.new (answered store.old.world (view_in store.old n) (calls.Index word i)) }
     ensures memory { result ≡ Err NoMemory → adds_rows store.old.world (answered store.old.world (view_in store.old n) (calls.Index word i)) ≡ true }
+    ensures steps { is_single (calls.Index word i) ≡ true → is_keyed (shape_at store.old.world (view_in store.old n)) ≡ true → steps.new ≤ steps.old + 4 }
 {
     match word {
         OnIndex::ItemAt => read(store, n, &Call::Index(word, i), steps),
@@ -150,6 +156,7 @@ fn on_indexed<L: Ledger>(
     requires change { ChangesUpTo (2 ^ 63 - 1) store.old.world }
     ensures came { Came result store.old store.new (answered store.old.world (view_in store.old n) (calls.Indexed word i x.now)) }
     ensures memory { result ≡ Err NoMemory → adds_rows store.old.world (answered store.old.world (view_in store.old n) (calls.Indexed word i x.now)) ≡ true }
+    ensures steps { is_single (calls.Indexed word i x.now) ≡ true → is_keyed (shape_at store.old.world (view_in store.old n)) ≡ true → steps.new ≤ steps.old + 4 }
 {
     match word {
         OnIndexed::AddAt => add_at(store, n, i, x, steps),
@@ -171,6 +178,7 @@ fn on_pair<L: Ledger>(
     requires change { ChangesUpTo (2 ^ 63 - 1) store.old.world }
     ensures came { Came result store.old store.new (answered store.old.world (view_in store.old n) (calls.Pair word k.now w.now)) }
     ensures memory { result ≡ Err NoMemory → adds_rows store.old.world (answered store.old.world (view_in store.old n) (calls.Pair word k.now w.now)) ≡ true }
+    ensures steps { is_single (calls.Pair word k.now w.now) ≡ true → is_keyed (shape_at store.old.world (view_in store.old n)) ≡ true → steps.new ≤ steps.old + 4 }
 {
     match word {
         OnPair::Put => put(store, n, k, w, steps),

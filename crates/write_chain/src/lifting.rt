@@ -14,7 +14,7 @@ pub(crate) fn lifts(store: &Store, n: AnyRef, item: &Item) -> bool
 {
     match store.node(n) {
         Node::Base(_) => true,
-        Node::Step { step, parent } => passes(step, item) && lifts(store, parent, item),
+        Node::Step { step, parent } => passes(&step, item) && lifts(store, parent, item),
     }
 }
 

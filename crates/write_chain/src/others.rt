@@ -1,5 +1,5 @@
 //! The calls with another view, on a view that allows them.
-ghost use Rattle.std.specs.Prelude.{◌≡◌, ◌<◌, ◌^◌, ◌-◌, Ok, cond, length, not, true};
+ghost use Rattle.std.specs.Prelude.{◌≡◌, ◌<◌, ◌^◌, ◌-◌, Ok, cond, false, length, not, true};
 ghost use Rattle.std.specs.List.{list_any};
 ghost use Rattle.base_store.specs.BaseRows.{AreRowsOf};
 ghost use Rattle.base_store.specs.Stored.{view_in};
@@ -7,6 +7,7 @@ ghost use Rattle.view_steps.specs.Answering.{all_hits, end_of_view};
 ghost use Rattle.view_steps.specs.Answers as answering;
 ghost use Rattle.view_steps.specs.Calls as spec;
 ghost use Rattle.view_steps.specs.Limits.{ChangesUpTo};
+ghost use Rattle.view_steps.specs.Shapes.{is_keyed};
 ghost use Rattle.view_steps.specs.Views.{base_at, base_under, candidates, flags_at, shape_at, shown};
 ghost use Rattle.view_steps.specs.declared.answers.Answer.TheVariants as answers;
 ghost use Rattle.view_steps.specs.declared.edits.Spot.TheVariants as spots;
@@ -19,11 +20,12 @@ use crate::putting::is_set;
 use crate::spots::end_spot;
 use base_store::{AnyRef, Store};
 use elem::Steps;
-use read_chain::{contains_all, find};
+use read_chain::{contains_all, goes_by_key};
 use std::sync::ledger::Ledger;
 use view_steps::{Answer, Item, Refusal, Spot};
 
-/// Removes what a view shows and a test passes, and tells whether there was such an item.
+/// Removes what a view shows and a test passes, and tells whether there was such an item. Where only a few elements pass,
+/// and no two items have the same key, it looks these up, and passes over no others.
 fn remove_among<L: Ledger>(
     store: &mut Store,
     n: AnyRef,
@@ -34,9 +36,23 @@ fn remove_among<L: Ledger>(
     requires change { ChangesUpTo (2 ^ 63 - 1) store.old.world }
     ensures { Came (Ok result) store.old store.new (removed store.old.world (view_in store.old n) (all_hits (among_passes test.now) (candidates store.old.world (view_in store.old n))) (answers.Truth (list_any (among_passes test.now) (shown store.old.world (view_in store.old n))))) }
 {
-    let found = find(store, n, test, steps).is_some();
-    store.drop_shown(n, test, steps);
-    Answer::Truth(found)
+    if looks_up(store, n, test) {
+        Answer::Truth(store.drop_of_keys(n, &test.members, test, steps))
+    } else {
+        Answer::Truth(store.drop_shown(n, test, steps))
+    }
+}
+
+/// Whether the items that pass are found by their keys sooner than by a pass over the base.
+fn looks_up(store: &Store, n: AnyRef, test: &Among) -> bool
+    requires { n < length store.now.nodes }
+    ensures keyed { result ≡ true → is_keyed (shape_at store.now.world (view_in store.now n)) ≡ true }
+    ensures among { result ≡ true → test.now.out ≡ false }
+{
+    if test.out || !goes_by_key(store.shape(n)) {
+        return false;
+    }
+    test.members.len() < store.len(store.base_of(n))
 }
 
 /// Removes what another view shows, or else what it does not show, and tells whether there was such an item.

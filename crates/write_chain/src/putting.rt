@@ -1,11 +1,12 @@
 //! The calls that add one item to a view that allows it.
-ghost use Rattle.std.specs.Prelude.{◌≡◌, ◌<◌, ◌^◌, ◌-◌, length, true, Err};
+ghost use Rattle.std.specs.Prelude.{◌≡◌, ◌<◌, ◌^◌, ◌-◌, length, true, Err, ◌≤◌, ◌+◌};
 ghost use Rattle.base_store.specs.Stored.{view_in};
 ghost use Rattle.view_steps.specs.Answering.{answered};
 ghost use Rattle.view_steps.specs.Calls as spec;
 ghost use Rattle.view_steps.specs.Indexes.{is_list};
 ghost use Rattle.view_steps.specs.Limits.{ChangesUpTo};
 ghost use Rattle.view_steps.specs.Memory.{adds_rows};
+ghost use Rattle.view_steps.specs.Shapes.{is_keyed};
 ghost use Rattle.view_steps.specs.Views.{flags_at, shape_at};
 ghost use Rattle.view_steps.specs.declared.calls.Call.TheVariants as calls;
 ghost use Rattle.view_steps.specs.declared.calls.OnElement.TheVariants as on_element;
@@ -43,6 +44,7 @@ pub(crate) fn add<L: Ledger>(
     requires change { ChangesUpTo (2 ^ 63 - 1) store.old.world }
     ensures came { Came result store.old store.new (answered store.old.world (view_in store.old n) (calls.Element on_element.Add x.now)) }
     ensures memory { result ≡ Err NoMemory → adds_rows store.old.world (answered store.old.world (view_in store.old n) (calls.Element on_element.Add x.now)) ≡ true }
+    ensures steps { is_keyed (shape_at store.old.world (view_in store.old n)) ≡ true → steps.new ≤ steps.old + 4 }
 {
     let item = Item::One(*x);
     let old = is_set(store, n) && contains(store, n, &item, steps);
@@ -123,6 +125,7 @@ pub(crate) fn put<L: Ledger>(
     requires change { ChangesUpTo (2 ^ 63 - 1) store.old.world }
     ensures came { Came result store.old store.new (answered store.old.world (view_in store.old n) (calls.Pair on_pair.Put k.now w.now)) }
     ensures memory { result ≡ Err NoMemory → adds_rows store.old.world (answered store.old.world (view_in store.old n) (calls.Pair on_pair.Put k.now w.now)) ≡ true }
+    ensures steps { steps.new ≤ steps.old + 4 }
 {
     let before = map_get(store, n, k, steps);
     add_one(

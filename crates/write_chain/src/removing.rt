@@ -1,5 +1,5 @@
 //! The calls that remove one item of a view that allows it.
-ghost use Rattle.std.specs.Prelude.{◌≡◌, ◌<◌, ◌^◌, ◌-◌, Ok, length, true, ◌≢◌, Err};
+ghost use Rattle.std.specs.Prelude.{◌≡◌, ◌<◌, ◌^◌, ◌-◌, Ok, length, true, ◌≢◌, Err, ◌≤◌, ◌+◌};
 ghost use Rattle.base_store.specs.Stored.{view_in};
 ghost use Rattle.view_steps.specs.Answering.{answered, first_hit};
 ghost use Rattle.view_steps.specs.Answers as spec;
@@ -16,7 +16,7 @@ ghost use Rattle.write_chain.specs.Calls.{Came, removed};
 
 use base_store::{AnyRef, Store};
 use elem::{Elem, Steps};
-use read_chain::{item_at, map_get, place_of, place_of_item, place_of_key};
+use read_chain::{item_at, place_and_value, place_of, place_of_item};
 use std::sync::ledger::Ledger;
 use view_steps::{Answer, Item, Refusal, key_of};
 
@@ -29,7 +29,8 @@ pub(crate) fn remove_item<L: Ledger>(
 ) -> Answer
     requires node { n < length store.old.nodes }
     requires change { ChangesUpTo (2 ^ 63 - 1) store.old.world }
-    ensures { Came (Ok result) store.old store.new (removed store.old.world (view_in store.old n) (first_hit (same_item item.now) (candidates store.old.world (view_in store.old n))) (answers.Truth (spec.is_shown (shown store.old.world (view_in store.old n)) item.now))) }
+    ensures came { Came (Ok result) store.old store.new (removed store.old.world (view_in store.old n) (first_hit (same_item item.now) (candidates store.old.world (view_in store.old n))) (answers.Truth (spec.is_shown (shown store.old.world (view_in store.old n)) item.now))) }
+    ensures steps { is_keyed (shape_at store.old.world (view_in store.old n)) ≡ true → steps.new ≤ steps.old + 2 }
 {
     let b = store.base_of(n);
     let _left = store.rows_left();
@@ -52,17 +53,17 @@ pub(crate) fn remove_key<L: Ledger>(
     requires node { n < length store.old.nodes }
     requires keyed { is_keyed (shape_at store.old.world (view_in store.old n)) ≡ true }
     requires change { ChangesUpTo (2 ^ 63 - 1) store.old.world }
-    ensures { Came (Ok result) store.old store.new (removed store.old.world (view_in store.old n) (first_hit (spec.has_key k.now) (candidates store.old.world (view_in store.old n))) (answers.Optional (spec.value_shown (shown store.old.world (view_in store.old n)) k.now))) }
+    ensures came { Came (Ok result) store.old store.new (removed store.old.world (view_in store.old n) (first_hit (spec.has_key k.now) (candidates store.old.world (view_in store.old n))) (answers.Optional (spec.value_shown (shown store.old.world (view_in store.old n)) k.now))) }
+    ensures steps { steps.new ≤ steps.old + 2 }
 {
     let b = store.base_of(n);
     let _left = store.rows_left();
-    let before = map_get(store, n, k, steps);
-    match place_of_key(store, n, k, steps) {
-        Some(place) => {
-            store.remove_row(b, &place, steps);
-            Answer::Optional(before)
+    match place_and_value(store, n, k, steps) {
+        Some(found) => {
+            store.remove_row(b, &found.0, steps);
+            Answer::Optional(Some(found.1))
         }
-        None => Answer::Optional(before),
+        None => Answer::Optional(None),
     }
 }
 

@@ -7,19 +7,8 @@ ghost use Rattle.view_steps.specs.Kinds.{shape_of_kind};
 ghost use Rattle.view_steps.specs.Shapes.{is_keyed};
 ghost use Rattle.view_steps.specs.Views.{base_at, base_under, turned};
 
-use base_store::{AnyRef, Node, Store};
-use view_steps::{Kind, Spot, flipped};
-
-/// Whether a view is walked from the back of its base.
-fn is_turned(store: &Store, n: AnyRef) -> bool
-    requires { n < length store.now.nodes }
-    ensures { result ≡ turned (view_in store.now n) }
-{
-    match store.node(n) {
-        Node::Base(_) => false,
-        Node::Step { step, parent } => flipped(step, is_turned(store, parent)),
-    }
-}
+use base_store::{AnyRef, Store};
+use view_steps::{Kind, Spot};
 
 /// Whether bases of a kind are lists.
 fn is_list_kind(kind: Kind) -> bool
@@ -36,7 +25,7 @@ pub(crate) fn end_spot(store: &Store, n: AnyRef) -> Spot
     ensures free { IsFree result }
 {
     let kind = store.kind(store.base_of(n));
-    if is_list_kind(kind) && is_turned(store, n) {
+    if is_list_kind(kind) && store.is_turned(n) {
         Spot::Before(0)
     } else {
         Spot::Own

@@ -1,29 +1,29 @@
 //! The rows of a base that a view shows, told from each row alone.
-ghost use Rattle.std.specs.Prelude.{◌≡◌, ◌<◌, ◌++◌, length};
+ghost use Rattle.std.specs.Prelude.{◌≡◌, ◌<◌, length};
 ghost use Rattle.base_store.specs.Hits.{StandBelow};
 ghost use Rattle.base_store.specs.Nodes.{view_at};
 ghost use Rattle.view_steps.specs.RowForm.{form_of, found_of_row, found_through, is_cut, is_row_hit};
 
-use super::{Made, node_among};
+use super::Made;
+use super::nodes::Nodes;
 use crate::RowTest;
 use view_steps::{Family, Found, Item, Step, family_of, found_over, passes};
 
 /// The rows that a view shows whose items pass a test.
 #[derive(Drop)]
 pub(super) struct Shown<'a, T> {
-    pub(super) lasting: &'a [Made],
-    pub(super) temporary: &'a [Made],
+    pub(super) nodes: &'a Nodes,
     pub(super) n: usize,
     pub(super) test: &'a T,
-    ghost within: { n < length (lasting.now ++ temporary.now) },
-    ghost below: { StandBelow (lasting.now ++ temporary.now) },
+    ghost within: { n < length nodes.now.made },
+    ghost below: { StandBelow nodes.now.made },
 }
 
 impl<'a, T: RowTest> RowTest for Shown<'a, T> {
-    ghost passes = { λ s row. is_row_hit (T.passes s.test.now) (form_of (view_at (s.lasting.now ++ s.temporary.now) s.n)) row };
+    ghost passes = { λ s row. is_row_hit (T.passes s.test.now) (form_of (view_at s.nodes.now.made s.n)) row };
 
     fn test(&self, item: &Item) -> bool {
-        match found_in(self.lasting, self.temporary, self.n, item) {
+        match found_in(self.nodes, self.n, item) {
             None => false,
             Some(found) => found.seen && self.test.test(&found.item),
         }
@@ -31,19 +31,19 @@ impl<'a, T: RowTest> RowTest for Shown<'a, T> {
 }
 
 /// What a view has of a row.
-fn found_in(lasting: &[Made], temporary: &[Made], n: usize, row: &Item) -> Option<Found>
-    requires within { n < length (lasting.now ++ temporary.now) }
-    requires below { StandBelow (lasting.now ++ temporary.now) }
-    ensures { result ≡ found_of_row (form_of (view_at (lasting.now ++ temporary.now) n)) row.now }
+fn found_in(nodes: &Nodes, n: usize, row: &Item) -> Option<Found>
+    requires within { n < length nodes.now.made }
+    requires below { StandBelow nodes.now.made }
+    ensures { result ≡ found_of_row (form_of (view_at nodes.now.made n)) row.now }
 {
-    match node_among(lasting, temporary, n) {
+    match nodes.made(n) {
         Made::Base(_) => Some(Found {
             item: *row,
             seen: true,
         }),
-        Made::Over(step, parent) => match found_in(lasting, temporary, *parent, row) {
+        Made::Over(step, parent) => match found_in(nodes, parent, row) {
             None => None,
-            Some(found) => found_above(step, &found),
+            Some(found) => found_above(&step, &found),
         },
     }
 }

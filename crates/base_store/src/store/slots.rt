@@ -2,6 +2,7 @@
 ghost use Rattle.std.specs.Prelude.{◌≡◌, ◌<◌, ◌≤◌, ◌+◌, ◌^◌, ◌⊎◌, ◌∷◌, ℕ, [], List, Some, filter, if◌then◌else◌, length, nat_lt, not, true, IfErr, OnErr, OnOk};
 ghost use Rattle.base_store.specs.Adding.{is_one_more};
 ghost use Rattle.base_store.specs.BaseRows.{AreRowsOf, IsFree, IsRowOf, IsSpotIn};
+ghost use Rattle.base_store.specs.Reaches.{Reaches};
 ghost use Rattle.view_steps.specs.Edits.{adding, edited, removing, with_rows};
 ghost use Rattle.view_steps.specs.Lanes.{IsFrom};
 ghost use Rattle.view_steps.specs.Places.{HasKeys, IsRowAt, places_of};
@@ -9,6 +10,7 @@ ghost use Rattle.view_steps.specs.declared.refusals.Refusal.TheVariants as refus
 
 use super::Slot;
 use crate::RowTest;
+use crate::reach::Reach;
 use elem::{NoMemory, Steps};
 use std::alloc::Global;
 use std::sync::ledger::Ledger;
@@ -29,6 +31,7 @@ impl Slot {
         ensures keys { OnOk result (HasKeys self.new) }
         ensures err { OnErr result (self.new ≡ self.old) }
         ensures memory { OnErr result (is_one_more self.old.kind spot self.old.rows row.now ≡ true) }
+        ensures steps { steps.new ≤ steps.old + 2 }
     {
         let before = self.rows.len();
         let Ok(()) = self.rows.place(spot, row, steps) else {
@@ -75,6 +78,7 @@ impl Slot {
         requires place { IsFrom (places_of self.old) (Some at.now) }
         ensures after { (numbers : List ℕ) → IsRowAt self.old.rows at.now numbers → self.new ≡ edited self.old (removing numbers) }
         ensures keys { HasKeys self.new }
+        ensures steps { steps.new ≤ steps.old + 1 }
     {
         let before = self.rows.len();
         self.rows.remove(at, steps);
@@ -82,14 +86,20 @@ impl Slot {
         self.change = raised(self.change, after, before);
     }
 
-    /// Removes every row that passes a test.
-    pub(super) fn drop_all<T: RowTest, L: Ledger>(&mut self, test: &T, steps: &mut Steps<L>)
+    /// Removes every row that passes a test. It looks at those within its reach alone.
+    pub(super) fn drop_all<T: RowTest, L: Ledger>(
+        &mut self,
+        reach: Reach<'_>,
+        test: &T,
+        steps: &mut Steps<L>,
+    )
         requires change { self.old.change < 2 ^ 63 }
+        requires reach { Reaches self.old.kind reach (T.passes test.now) }
         ensures after { self.new ≡ with_rows self.old (filter (λ row. not (T.passes test.now row)) self.old.rows) (nat_lt (length (filter (λ row. not (T.passes test.now row)) self.old.rows)) (length self.old.rows)) }
         ensures keys { HasKeys self.new }
     {
         let before = self.rows.len();
-        self.rows.drop_all(test, steps);
+        self.rows.drop_all(reach, test, steps);
         let after = self.rows.len();
         self.change = raised(self.change, after, before);
     }

@@ -16,10 +16,9 @@ ghost use Rattle.view_steps.specs.Shapes.{is_keyed};
 ghost use Rattle.view_steps.specs.Views.{base, base_at, base_under, candidates};
 ghost use Rattle.view_steps.specs.declared.refusals.Refusal.TheVariants as refusals;
 
-use super::shown::Shown;
-use super::{MOST_ROWS, Made, Slot, Store};
+use super::{MOST_ROWS, Slot, Store};
+use crate::BaseId;
 use crate::base_rows::BaseRows;
-use crate::{AnyRef, BaseId, RowTest};
 use elem::{NoMemory, Steps};
 use std::alloc::Global;
 use std::sync::ledger::Ledger;
@@ -47,6 +46,7 @@ impl Store {
         ensures err { OnErr result (self.new ≡ self.old) }
         ensures cause { IfErr result (λ why. ((why ≡ refusals.Limit) × (most_rows < rows_in (world_after self.old.world b (adding spot (row.now ∷ []))))) ⊎ (why ≡ refusals.NoMemory)) }
         ensures memory { result ≡ Err refusals.NoMemory → Grows self.old.world (world_after self.old.world b (adding spot (row.now ∷ []))) }
+        ensures steps { steps.new ≤ steps.old + 3 }
     {
         let at = b.number();
         let before = rows_at(self.slots.as_slice(), at);
@@ -103,6 +103,7 @@ impl Store {
         requires place { IsFrom (spec.places self.old.world (base b)) (Some at.now) }
         ensures after { (numbers : List ℕ) → spec.IsRowAt (base_at self.old.world b).rows at.now numbers → self.new ≡ with_world self.old (world_after self.old.world b (removing numbers)) }
         ensures few { rows_in self.new.world ≤ most_rows }
+        ensures steps { steps.new ≤ steps.old + 1 }
     {
         let number = b.number();
         let before = rows_at(self.slots.as_slice(), number);
@@ -110,32 +111,10 @@ impl Store {
         let after = rows_at(self.slots.as_slice(), number);
         self.rows = self.rows - before + after;
     }
-
-    /// Removes the rows that a view shows whose items pass a test. It takes no memory.
-    pub fn drop_shown<T: RowTest, L: Ledger>(&mut self, n: AnyRef, test: &T, steps: &mut Steps<L>)
-        requires node { n < length self.old.nodes }
-        requires change { (base_at self.old.world (base_under (view_in self.old n))).change < 2 ^ 63 }
-        ensures after { self.new ≡ with_world self.old (world_after self.old.world (base_under (view_in self.old n)) (removing (all_hits (T.passes test.now) (candidates self.old.world (view_in self.old n))))) }
-        ensures few { rows_in self.new.world ≤ most_rows }
-    {
-        let at = self.root_of(n).number();
-        let before = rows_at(self.slots.as_slice(), at);
-        drop_in(
-            &mut self.slots,
-            at,
-            self.nodes.as_slice(),
-            self.temporary.as_slice(),
-            n.number(),
-            test,
-            steps,
-        );
-        let after = rows_at(self.slots.as_slice(), at);
-        self.rows = self.rows - before + after;
-    }
 }
 
 /// How many rows a base has.
-fn rows_at(slots: &[Slot], b: usize) -> usize
+pub(super) fn rows_at(slots: &[Slot], b: usize) -> usize
     requires { b < length slots.now }
     ensures { result ≡ length (base_at slots.now b).rows }
 {
@@ -153,7 +132,8 @@ fn is_full<L: Ledger>(
     steps: &mut Steps<L>,
 ) -> bool
     requires { b < length slots.now }
-    ensures { result ≡ (nat_eq rows most_rows && is_one_more (base_at slots.now b).kind spot (base_at slots.now b).rows row.now) }
+    ensures full { result ≡ (nat_eq rows most_rows && is_one_more (base_at slots.now b).kind spot (base_at slots.now b).rows row.now) }
+    ensures steps { steps.new ≤ steps.old + 1 }
 {
     if rows != MOST_ROWS {
         return false;
@@ -164,7 +144,8 @@ fn is_full<L: Ledger>(
 
 /// Whether a row that comes to a spot is one more.
 fn adds<L: Ledger>(rows: &BaseRows, spot: Spot, row: &Item, steps: &mut Steps<L>) -> bool
-    ensures { result ≡ is_one_more (kind_of rows.now) spot (rows_of rows.now) row.now }
+    ensures added { result ≡ is_one_more (kind_of rows.now) spot (rows_of rows.now) row.now }
+    ensures steps { steps.new ≤ steps.old + 1 }
 {
     match spot {
         Spot::Own => {
@@ -201,6 +182,7 @@ fn place_in<L: Ledger>(
     ensures keys { OnOk result (HasKeys (edited (base_at slots.old.items b) (adding spot (row.now ∷ [])))) }
     ensures err { OnErr result (slots.new.items ≡ slots.old.items) }
     ensures memory { OnErr result (is_one_more (base_at slots.old.items b).kind spot (base_at slots.old.items b).rows row.now ≡ true) }
+    ensures steps { steps.new ≤ steps.old + 2 }
 {
     let slot = &mut slots[b];
     slot.place(spot, row, steps)
@@ -238,35 +220,8 @@ fn remove_in<L: Ledger>(slots: &mut Vec<Slot>, b: usize, at: &Place, steps: &mut
     requires place { IsFrom (spec.places slots.old.items (base b)) (Some at.now) }
     ensures after { (numbers : List ℕ) → spec.IsRowAt (base_at slots.old.items b).rows at.now numbers → slots.new.items ≡ world_after slots.old.items b (removing numbers) }
     ensures keys { (numbers : List ℕ) → spec.IsRowAt (base_at slots.old.items b).rows at.now numbers → HasKeys (edited (base_at slots.old.items b) (removing numbers)) }
+    ensures steps { steps.new ≤ steps.old + 1 }
 {
     let slot = &mut slots[b];
     slot.remove(at, steps);
-}
-
-/// Removes the rows of a base that a view over it shows whose items pass a test.
-fn drop_in<T: RowTest, L: Ledger>(
-    slots: &mut Vec<Slot>,
-    b: usize,
-    lasting: &[Made],
-    temporary: &[Made],
-    n: usize,
-    test: &T,
-    steps: &mut Steps<L>,
-)
-    requires base { b < length slots.old.items }
-    requires change { (base_at slots.old.items b).change < 2 ^ 63 }
-    requires within { n < length (lasting.now ++ temporary.now) }
-    requires below { StandBelow (lasting.now ++ temporary.now) }
-    requires under { b ≡ base_under (view_at (lasting.now ++ temporary.now) n) }
-    ensures after { slots.new.items ≡ world_after slots.old.items b (removing (all_hits (T.passes test.now) (candidates slots.old.items (view_at (lasting.now ++ temporary.now) n)))) }
-    ensures keys { HasKeys (edited (base_at slots.old.items b) (removing (all_hits (T.passes test.now) (candidates slots.old.items (view_at (lasting.now ++ temporary.now) n))))) }
-{
-    let shown = Shown {
-        lasting,
-        temporary,
-        n,
-        test,
-    };
-    let slot = &mut slots[b];
-    slot.drop_all(&shown, steps);
 }

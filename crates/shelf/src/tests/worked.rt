@@ -1,7 +1,7 @@
 //! Scripts, each with what it writes.
 
 /// A script, and its transcript.
-pub const WORKED: [(&[u8], &[u8]); 16] = [
+pub const WORKED: [(&[u8], &[u8]); 17] = [
     // An empty script.
     (b"", b""),
     // Every kind, and its order.
@@ -73,6 +73,11 @@ pub const WORKED: [(&[u8], &[u8]); 16] = [
     (
         b"new s LinkedHashSet\ns.add(2)\ns.add(1)\ns.add(2)\nlet m = s.asMap(times(10))\nm\nm.put(3, 30)\nm.remove(2)\ns\nm.containsKey(1)\nnew t LinkedHashSet\nt.add(3)\nt.add(1)\ns.addAll(t)\ns.addAll(t)\ns\ns.retainAll(t)\ns.containsAll(t)\nt.clear\ns.retainAll(t)\ns\n",
         b"ok\ntrue\ntrue\nfalse\nok\n{2=20, 1=10}\nUnsupportedOperationException\n20\n[1]\ntrue\nok\ntrue\ntrue\ntrue\nfalse\n[1, 3]\nfalse\ntrue\nok\ntrue\n[]\n",
+    ),
+    // What goes from a window goes from there alone, and of many elements each goes.
+    (
+        b"new s TreeSet\ns.add(1)\ns.add(2)\ns.add(3)\ns.add(4)\nlet w = s.within([2..3])\nw.clear\nw.clear\ns\ns.add(2)\ns.add(3)\nnew n ArrayList\nn.add(3)\nn.add(4)\nn.add(9)\nw.retainAll(n)\ns\ns.removeAll(n)\ns\ns.removeAll(n)\ns.clear\ns\n",
+        b"ok\ntrue\ntrue\ntrue\ntrue\nok\nok\nok\n[1, 4]\ntrue\ntrue\nok\ntrue\ntrue\ntrue\ntrue\n[1, 3, 4]\ntrue\n[1]\nfalse\nok\n[]\n",
     ),
     // Lines that are refused, the longest path, and a last line without a newline.
     (

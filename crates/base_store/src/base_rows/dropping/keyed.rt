@@ -1,16 +1,20 @@
 //! Rows that go from a set or a map.
-ghost use Rattle.std.specs.Prelude.{◌≡◌, ℕ, List, Some, ◌∷◌, ◌++◌, cond, filter, map, not};
+ghost use Rattle.std.specs.Prelude.{◌≡◌, ◌≤◌, ◌+◌, ◌*◌, ℕ, List, Some, ◌∷◌, ◌++◌, ◌&&◌, cond, filter, is_some, length, map, not, true};
 ghost use Rattle.base_store.specs.Journals.{items_by};
 ghost use Rattle.elem.specs.declared.elements.Elem.{Elem as Element};
-ghost use Rattle.elem.specs.Keyed.{IsPresent};
+ghost use Rattle.elem.specs.Elements.{same};
+ghost use Rattle.elem.specs.Keyed.{value_at, IsPresent};
 ghost use Rattle.elem.specs.Rows.{first_key};
+ghost use Rattle.view_steps.specs.declared.items.Item.{Item as AnItem};
 ghost use Rattle.view_steps.specs.Edits.{without_rows};
+ghost use Rattle.view_steps.specs.Items.{key_of};
 ghost use Rattle.view_steps.specs.Lanes.{IsFrom};
 ghost use Rattle.view_steps.specs.Places.{key_place, IsRowAt};
 
 use super::super::placing::row_values::RowValue;
 use crate::RowTest;
 use elem::{Elem, Keyed, Steps};
+use linked_base::FreeLinkedMap;
 use std::sync::ledger::Ledger;
 use view_steps::Place;
 
@@ -21,11 +25,30 @@ pub fn remove_key<V: RowValue, K: Keyed<V>, L: Ledger>(
     steps: &mut Steps<L>,
 )
     requires { IsFrom (map key_place (items_by V.row_of (K.rows rows.old))) (Some at.now) }
-    ensures { (numbers : List ℕ) → IsRowAt (items_by V.row_of (K.rows rows.old)) at.now numbers → items_by V.row_of (K.rows rows.new) ≡ without_rows numbers 0 (items_by V.row_of (K.rows rows.old)) }
+    ensures rows { (numbers : List ℕ) → IsRowAt (items_by V.row_of (K.rows rows.old)) at.now numbers → items_by V.row_of (K.rows rows.new) ≡ without_rows numbers 0 (items_by V.row_of (K.rows rows.old)) }
+    ensures steps { steps.new ≤ steps.old + 1 }
 {
     let _len = rows.len();
     if let Place::Key(k) = at {
         rows.remove(*k, steps);
+    }
+}
+
+/// Removes the row of a key where it passes a test.
+pub fn drop_key<V: RowValue, K: Keyed<V>, T: RowTest, L: Ledger>(
+    rows: &mut K,
+    k: &Elem,
+    test: &T,
+    steps: &mut Steps<L>,
+)
+    ensures rows { K.rows rows.new ≡ filter (λ row. not (same k.now row.0 && T.passes test.now (V.row_of row.0 row.1))) (K.rows rows.old) }
+    ensures steps { steps.new ≤ steps.old + 2 }
+{
+    let _len = rows.len();
+    if let Some(v) = rows.probe(*k, steps) {
+        if test.test(&V::row(*k, v)) {
+            rows.remove(*k, steps);
+        }
     }
 }
 
@@ -42,12 +65,30 @@ fn drop_row<V: RowValue, K: Keyed<V>, T: RowTest, L: Ledger>(
 {
     let _len = rows.len();
     let next = rows.after(*k, steps);
-    if let Some(v) = rows.probe(*k, steps) {
-        if test.test(&V::row(*k, v)) {
-            rows.remove(*k, steps);
-        }
-    }
+    drop_key(rows, k, test, steps);
     next
+}
+
+/// Removes every row that passes a test, where each of them has one of some keys.
+pub fn drop_keys<V: RowValue, K: Keyed<V>, T: RowTest, L: Ledger>(
+    rows: &mut K,
+    keys: &FreeLinkedMap<()>,
+    test: &T,
+    steps: &mut Steps<L>,
+)
+    requires { (row : AnItem) → T.passes test.now row ≡ true → is_some (value_at keys.now (key_of row)) ≡ true }
+    ensures rows { items_by V.row_of (K.rows rows.new) ≡ filter (λ row. not (T.passes test.now row)) (items_by V.row_of (K.rows rows.old)) }
+    ensures steps { steps.new ≤ steps.old + 2 * length keys.now }
+{
+    let count = keys.len();
+    let mut at = keys.first();
+    for _key in 0..count {
+        let Some(k) = at else {
+            return;
+        };
+        drop_key(rows, &k, test, steps);
+        at = keys.after(k);
+    }
 }
 
 /// Removes every row that passes a test, from the first to the last.

@@ -1,5 +1,5 @@
 //! Items that go from a list.
-ghost use Rattle.std.specs.Prelude.{◌≡◌, ℕ, List, Some, filter, not, take, length, ◌≤◌};
+ghost use Rattle.std.specs.Prelude.{◌≡◌, ℕ, List, Some, filter, not, take, length, ◌≤◌, ◌+◌};
 ghost use Rattle.base_store.specs.BaseRows.{items};
 ghost use Rattle.view_steps.specs.Edits.{without_rows};
 ghost use Rattle.view_steps.specs.Lanes.{IsFrom};
@@ -16,7 +16,8 @@ use view_steps::{Item, Place};
 /// Removes the item at a place, which is its index.
 pub fn remove_index<L: Ledger>(rows: &mut ArrayRows, at: &Place, steps: &mut Steps<L>)
     requires { IsFrom (numbered 0 (items rows.old)) (Some at.now) }
-    ensures { (numbers : List ℕ) → IsRowAt (items rows.old) at.now numbers → items rows.new ≡ without_rows numbers 0 (items rows.old) }
+    ensures rows { (numbers : List ℕ) → IsRowAt (items rows.old) at.now numbers → items rows.new ≡ without_rows numbers 0 (items rows.old) }
+    ensures steps { steps.new ≤ steps.old + 1 }
 {
     if let Place::Index(i) = at {
         rows.remove_at(*i, steps);

@@ -22,6 +22,7 @@ fn put<V: Copy, K: Keyed<V>, L: Ledger>(
     ensures before { IfOk result (λ before. before ≡ value_at (K.rows rows.old) k.now) }
     ensures err { OnErr result (K.rows rows.new ≡ K.rows rows.old) }
     ensures memory { OnErr result (value_at (K.rows rows.old) k.now ≡ None) }
+    ensures steps { steps.new ≤ steps.old + 2 }
 {
     if let Some(before) = rows.probe(*k, steps) {
         rows.replace(*k, v, steps);
@@ -42,6 +43,7 @@ pub fn put_row<V: RowValue, K: Keyed<V>, L: Ledger>(
     ensures ok { OnOk result (K.rows rows.new ≡ with_item K.inserted V.value_in (K.rows rows.old) row.now) }
     ensures err { OnErr result (K.rows rows.new ≡ K.rows rows.old) }
     ensures memory { OnErr result (value_at (K.rows rows.old) (key_of row.now) ≡ None) }
+    ensures steps { steps.new ≤ steps.old + 2 }
 {
     match put(rows, &key_of(row), V::value(row), steps) {
         Ok(_) => Ok(()),

@@ -25,6 +25,7 @@ pub fn place_item<L: Ledger>(
     ensures ok { OnOk result (items rows.new ≡ placed_at ArrayList spot (items rows.old) (One x)) }
     ensures err { OnErr result (items rows.new ≡ items rows.old) }
     ensures memory { OnErr result (is_one_more ArrayList spot (items rows.old) (One x) ≡ true) }
+    ensures steps { steps.new ≤ steps.old + 1 }
 {
     match spot {
         Spot::Own => {

@@ -24,6 +24,7 @@ pub fn put_sorted<V: RowValue, C: Compare, L: Ledger>(
     ensures ok { OnOk result (rows.new ≡ with_item (placed C.before) V.value_in rows.old row.now) }
     ensures err { OnErr result (rows.new ≡ rows.old) }
     ensures memory { OnErr result (value_at rows.old (key_of row.now) ≡ None) }
+    ensures steps { steps.new ≤ steps.old + 2 }
 {
     let _len = rows.len();
     put_row(rows, row, steps)

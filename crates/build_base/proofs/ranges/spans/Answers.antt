@@ -1,9 +1,13 @@
-use Rattle.std.proofs.Common.{◌≡◌, Some, map, refl, sym, ap, ◌∙◌}
-use Rattle.std.specs.List.{slice_get}
+use Rattle.std.proofs.Common.{◌≡◌, Option, Some, map, refl, sym, ap, subst, ◌∙◌}
+use Rattle.std.specs.Prelude.{IfSome}
+use Rattle.std.specs.List.{All, slice_get}
+use Rattle.std.proofs.lemmas.List.Elements.{All-push}
 use Rattle.std.specs.Option.{option_map}
+use Rattle.elem.specs.declared.spans.Span.{Span}
+use Rattle.elem.specs.Spans.{IsWhole}
 use Rattle.range_base.specs.Spans.{row_of_span}
 use Rattle.build_base.specs.declared.row.Row.TheVariants.{Range}
-use Rattle.build_base.specs.Ranges.{range_of}
+use Rattle.build_base.specs.Ranges.{range_of, IsWholeRow}
 use Rattle.build_base.proofs.WalkLemmas.{read_more, row_after}
 use Rattle.build_base.proofs.ranges.spans.Goals as goal
 
@@ -16,4 +20,5 @@ loop-preserved c =
       ap (map range_of) c.in_ok-push.ensures.ok ∙ read_more range_of rows i c.loop.rows.items c.loop.invariant.0 (Range span) (row_of_span span) refl here,
       c.after-next.ensures.row ∙ row_after 1 0 rows c.len-end.ensures.valid.apart i (row_of_span span) here,
       c.after-next.ensures.whole,
+      subst (All IsWholeRow) (sym c.in_ok-push.ensures.ok) (All-push IsWholeRow c.loop.rows.items (Range span) c.loop.invariant.3 (subst (λ (o : Option Span). IfSome o IsWhole) c.in-Some.is c.loop.invariant.2)),
     )

@@ -28,7 +28,7 @@ returns-in-Some-find_key-clause-found g t c =
     let v : View = view_in s c.in-Step.parent in
     let keys = rw (c.in-Step.ensures.0) at c.requires.keys in
     rw (c.in-Step.ensures.0, c.found_over.ensures)
-    (one_over s.world c.in-Step.step.now v (OfKey c.args.k.now) (OfKey c.in-Some-key_below.below) (Some c.in-Some-find_key.found) keys c.in-Some-key_below.ensures.some c.in-Some-find_key.ensures.found)
+    (one_over s.world c.in-Step.step v (OfKey c.args.k.now) (OfKey c.in-Some-key_below.below) (Some c.in-Some-find_key.found) keys c.in-Some-key_below.ensures.some c.in-Some-find_key.ensures.found)
 
 pub returns-in-None-find_key-clause-found : goal.returns-in-None-find_key-clause-found
 returns-in-None-find_key-clause-found g t c =
@@ -36,7 +36,7 @@ returns-in-None-find_key-clause-found g t c =
     let v : View = view_in s c.in-Step.parent in
     let keys = rw (c.in-Step.ensures.0) at c.requires.keys in
     rw (c.in-Step.ensures.0)
-    (one_over s.world c.in-Step.step.now v (OfKey c.args.k.now) (OfKey c.in-Some-key_below.below) None keys c.in-Some-key_below.ensures.some c.in-None-find_key.ensures.found)
+    (one_over s.world c.in-Step.step v (OfKey c.args.k.now) (OfKey c.in-Some-key_below.below) None keys c.in-Some-key_below.ensures.some c.in-None-find_key.ensures.found)
 
 pub returns-in-None-key_below-clause-found : goal.returns-in-None-key_below-clause-found
 returns-in-None-key_below-clause-found g t c =
@@ -44,4 +44,4 @@ returns-in-None-key_below-clause-found g t c =
     let v : View = view_in s c.in-Step.parent in
     let keys = rw (c.in-Step.ensures.0) at c.requires.keys in
     rw (c.in-Step.ensures.0)
-    (one_over s.world c.in-Step.step.now v (OfKey c.args.k.now) Nothing None keys c.in-None-key_below.ensures.none (none_taken (map found_in (candidates s.world v))))
+    (one_over s.world c.in-Step.step v (OfKey c.args.k.now) Nothing None keys c.in-None-key_below.ensures.none (none_taken (map found_in (candidates s.world v))))

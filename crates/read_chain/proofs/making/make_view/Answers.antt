@@ -19,7 +19,7 @@ pub new_view-requires-clause-kept : goal.new_view-requires-clause-kept
 new_view-requires-clause-kept c =
     let s = c.args.store.now in
     let v = view_in s c.args.parent in
-    let it = c.args.step.now in
+    let it = c.args.step in
     let fits : takes_argument (order_at s.world v) (window_at v) it ≡ true = rw (← c.order_of-order.ensures, ← c.window_of-window.ensures) (sym c.takes_argument.ensures ∙ c.if-not-takes_argument.false) in
     let short : path v < longest_path = omega arith in
     rw (c.kept_on.ensures, c.order_of-order.ensures, c.window_of-window.ensures) (kept_made s.world v it c.base_of-base.ensures.made c.requires.given (not_refused s.world v it fits short)).0.kept

@@ -10,7 +10,7 @@ pub next_place-requires-in-Some : goal.next_place-requires-in-Some
 next_place-requires-in-Some g t c κs within =
     let s = c.args.store.now in
     let v : View = view_in s c.in-Step.parent in
-    let it = c.in-Step.step.now in
+    let it = c.in-Step.step in
     let is : narrow it c.args.lane.now ≡ Some c.in-Some.below = sym c.in-Some.ensures in
     let straight = rw (c.in-Step.ensures.0) at c.requires.straight in
     let from = rw (c.in-Step.ensures.0) at c.requires.from in (
@@ -31,7 +31,7 @@ pub returns-in-Some-clause-next : goal.returns-in-Some-clause-next
 returns-in-Some-clause-next g t c =
     let s = c.args.store.now in
     let v : View = view_in s c.in-Step.parent in
-    let it = c.in-Step.step.now in
+    let it = c.in-Step.step in
     let is : narrow it c.args.lane.now ≡ Some c.in-Some.below = sym c.in-Some.ensures in
     let next : Follows (line s.world v c.in-Some.below (flipped it c.args.back)) c.args.from c.next_place-in-Some.result = rw (← c.flipped.ensures) c.next_place-in-Some.ensures.next in
     rw (c.in-Step.ensures.0) (subst (λ ps. Follows ps c.args.from c.next_place-in-Some.result) (sym (line-over s.world it v c.args.lane.now c.in-Some.below c.args.back is)) next)

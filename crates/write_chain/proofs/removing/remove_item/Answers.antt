@@ -16,8 +16,8 @@ use Rattle.view_steps.proofs.ChangeLemmas.{room}
 pub remove_row-requires-clause-change : goal.remove_row-requires-clause-change
 remove_row-requires-clause-change g c = room _ _ c.requires.change
 
-pub returns-in-Some : goal.returns-in-Some
-returns-in-Some g c =
+pub returns-in-Some-clause-came : goal.returns-in-Some-clause-came
+returns-in-Some-clause-came g c =
     let s = c.args.store.now in
     let v = view_in s c.args.n in
     let passes = same_item c.args.item.now in
@@ -26,8 +26,8 @@ returns-in-Some g c =
     subst (λ (a : Answer). Came (Ok (Truth true)) s now (removed s.world v gone a)) (ap Truth (one_shown s.world v passes c.in-Some.place c.in-Some.ensures.some))
     (gone_came s now v gone (Truth true) (row_gone s now v c.in-Some.place c.base_of-b.result gone c.base_of-b.ensures.base c.in-Some.ensures.some c.remove_row.ensures.after) c.remove_row.ensures.few)
 
-pub returns-in-None : goal.returns-in-None
-returns-in-None g c =
+pub returns-in-None-clause-came : goal.returns-in-None-clause-came
+returns-in-None-clause-came g c =
     let s = c.args.store.now in
     let v = view_in s c.args.n in
     let passes = same_item c.args.item.now in

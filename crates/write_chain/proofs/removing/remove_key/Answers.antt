@@ -1,20 +1,33 @@
-use Rattle.std.proofs.Common.{arith}
+use Rattle.std.proofs.Common.{ap, arith, subst, Some, None}
+use Rattle.std.specs.Prelude.{Ok}
 use Rattle.base_store.specs.Stored.{view_in}
+use Rattle.view_steps.specs.declared.answers.Answer.{Answer}
 use Rattle.view_steps.specs.declared.answers.Answer.TheVariants.{Optional}
 use Rattle.view_steps.specs.Answering.{first_hit}
-use Rattle.view_steps.specs.Answers.{has_key, value_shown}
-use Rattle.view_steps.specs.Views.{base_under, candidates, shown}
-use Rattle.write_chain.proofs.RemoveLemmas.{gone_came, none_hit}
+use Rattle.view_steps.specs.Answers.{has_key}
+use Rattle.view_steps.specs.Views.{base_under, candidates}
+use Rattle.write_chain.specs.Calls.{Came, removed}
+use Rattle.write_chain.proofs.RemoveLemmas.{gone_came, none_hit, row_gone}
 use Rattle.write_chain.proofs.removing.remove_key.Goals as goal
 use Rattle.view_steps.proofs.ChangeLemmas.{room}
 
 pub remove_row-requires-clause-change : goal.remove_row-requires-clause-change
 remove_row-requires-clause-change g c = room _ _ c.requires.change
 
-pub returns-in-None : goal.returns-in-None
-returns-in-None g c =
+pub returns-in-Some-clause-came : goal.returns-in-Some-clause-came
+returns-in-Some-clause-came g c =
     let s = c.args.store.now in
     let v = view_in s c.args.n in
     let gone = first_hit (has_key c.args.k.now) (candidates s.world v) in
-    rw c.map_get-before.ensures.value
-    (gone_came s s v gone (Optional (value_shown (shown s.world v) c.args.k.now)) (none_hit s (base_under v) gone c.in-None.ensures.none) (omega (arith, c.rows_left-left.ensures)))
+    let now = c.remove_row.new.self in
+    let found = c.in-Some.found in
+    subst (λ (a : Answer). Came (Ok (Optional (Some found.1))) s now (removed s.world v gone a)) (ap Optional c.in-Some.ensures.value)
+    (gone_came s now v gone (Optional (Some found.1)) (row_gone s now v found.0 c.base_of-b.result gone c.base_of-b.ensures.base c.in-Some.ensures.some c.remove_row.ensures.after) c.remove_row.ensures.few)
+
+pub returns-in-None-clause-came : goal.returns-in-None-clause-came
+returns-in-None-clause-came g c =
+    let s = c.args.store.now in
+    let v = view_in s c.args.n in
+    let gone = first_hit (has_key c.args.k.now) (candidates s.world v) in
+    subst (λ (a : Answer). Came (Ok (Optional None)) s s (removed s.world v gone a)) (ap Optional c.in-None.ensures.value)
+    (gone_came s s v gone (Optional None) (none_hit s (base_under v) gone c.in-None.ensures.none) (omega (arith, c.rows_left-left.ensures)))

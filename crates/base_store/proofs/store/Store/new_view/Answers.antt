@@ -1,19 +1,23 @@
-use Rattle.std.proofs.Common.{◌∷◌, [], ◌∙◌, append_assoc}
-use Rattle.base_store.specs.declared.store.Made.TheVariants.{Over}
+use Rattle.std.proofs.Common.{◌≡◌, ◌∙◌, sym}
+use Rattle.std.proofs.lemmas.Option.{same_Some}
+use Rattle.base_store.specs.Facts.{facts_at}
+use Rattle.base_store.specs.Stored.{Stored, view_in}
 use Rattle.base_store.proofs.BuiltLemmas.{sound_view}
 use Rattle.base_store.proofs.NodeLemmas.{added_step}
 use Rattle.base_store.proofs.store.Store.new_view.Goals as goal
 
 pub invariant_of-self : goal.invariant_of-self
 invariant_of-self c =
+    let s : Stored = record { world = c.self.inside.slots.items; nodes = c.self.inside.nodes.made; lasting = c.self.inside.nodes.lasting; handles = c.self.inside.handles } in
     let within = rw (← c.self.view_is) at c.requires.parent in
-    rw (c.push.ensures.items, c.number.ensures, ← append_assoc c.self.inside.nodes.items c.self.inside.temporary.items (Over c.args.step.now c.args.parent ∷ []))
-    (sound_view _ c.self.inside.rows c.args.parent c.args.step.now c.self.invariant within
-    (record { given = rw (← c.self.view_is) at c.requires.given; kept = rw (← c.self.view_is) at c.requires.kept; short = rw (← c.self.view_is) at c.requires.short }))
+    let below : c.facts.result.now ≡ facts_at s.world (view_in s c.args.parent) = same_Some _ _ (sym (rw c.number.ensures at c.facts.ensures) ∙ c.self.invariant.kept.each c.args.parent within) in
+    rw (c.push_step.ensures, c.number-2.ensures)
+    (sound_view s c.self.inside.nodes.facts c.self.inside.rows c.args.parent c.args.step.now c.over-facts.result c.self.invariant within
+    (record { given = rw (← c.self.view_is) at c.requires.given; kept = rw (← c.self.view_is) at c.requires.kept; short = rw (← c.self.view_is) at c.requires.short })
+    (c.over-facts.ensures s.world (view_in s c.args.parent) below))
 
 pub returns-clause-view : goal.returns-clause-view
 returns-clause-view c =
     let within = rw (← c.self.view_is) at c.requires.parent in
-    let number = c.at.ensures ∙ rw (← c.self.view_is) at c.node_count-number.ensures in
-    rw (c.push.ensures.items, c.number.ensures, number, ← append_assoc c.self.inside.nodes.items c.self.inside.temporary.items (Over c.args.step.now c.args.parent ∷ []), ← c.self.view_is)
+    rw (c.at.ensures, c.count-number.ensures.count, c.push_step.ensures, c.number-2.ensures, ← c.self.view_is)
     (added_step _ c.args.step.now c.args.parent 0 within)

@@ -1,4 +1,4 @@
-use Rattle.std.proofs.Common.{◌++◌, length, arith, refl}
+use Rattle.std.proofs.Common.{arith, refl}
 use Rattle.view_steps.specs.Edits.{adding}
 use Rattle.base_store.specs.Stored.{Stored}
 use Rattle.base_store.proofs.BuiltLemmas.{sound_edited}
@@ -7,7 +7,7 @@ use Rattle.view_steps.proofs.EditedRows.{limit_cause}
 
 pub overflow_sub-self : goal.overflow_sub-self
 overflow_sub-self c d =
-    let s : Stored = record { world = d.self.inside.slots.items; nodes = d.self.inside.nodes.items ++ d.self.inside.temporary.items; lasting = length d.self.inside.nodes.items; handles = d.self.inside.handles } in
+    let s : Stored = record { world = d.self.inside.slots.items; nodes = d.self.inside.nodes.made; lasting = d.self.inside.nodes.lasting; handles = d.self.inside.handles } in
     let lt = rw (← d.self.view_is, ← d.number-at.ensures) at d.requires.base in
     let was = rw d.as_slice.ensures.value at d.rows_at-before.ensures in
     let is = rw (d.as_slice-in-Ok.ensures.value, d.in-Ok.ensures.ok) at d.rows_at-after.ensures in
@@ -16,7 +16,7 @@ overflow_sub-self c d =
 
 pub invariant_of-self-in-Ok : goal.invariant_of-self-in-Ok
 invariant_of-self-in-Ok c d =
-    let s : Stored = record { world = d.self.inside.slots.items; nodes = d.self.inside.nodes.items ++ d.self.inside.temporary.items; lasting = length d.self.inside.nodes.items; handles = d.self.inside.handles } in
+    let s : Stored = record { world = d.self.inside.slots.items; nodes = d.self.inside.nodes.made; lasting = d.self.inside.nodes.lasting; handles = d.self.inside.handles } in
     let lt = rw (← d.self.view_is, ← d.number-at.ensures) at d.requires.base in
     let was = rw d.as_slice.ensures.value at d.rows_at-before.ensures in
     let is = rw (d.as_slice-in-Ok.ensures.value, d.in-Ok.ensures.ok) at d.rows_at-after.ensures in
@@ -33,7 +33,7 @@ returns-in-Ok-clause-ok c d = rw (← d.self.view_is, d.in-Ok.ensures.ok, d.numb
 
 pub returns-in-Ok-clause-few : goal.returns-in-Ok-clause-few
 returns-in-Ok-clause-few c d =
-    let s : Stored = record { world = d.self.inside.slots.items; nodes = d.self.inside.nodes.items ++ d.self.inside.temporary.items; lasting = length d.self.inside.nodes.items; handles = d.self.inside.handles } in
+    let s : Stored = record { world = d.self.inside.slots.items; nodes = d.self.inside.nodes.made; lasting = d.self.inside.nodes.lasting; handles = d.self.inside.handles } in
     let lt = rw (← d.self.view_is, ← d.number-at.ensures) at d.requires.base in
     let was = rw d.as_slice.ensures.value at d.rows_at-before.ensures in
     let is = rw (d.as_slice-in-Ok.ensures.value, d.in-Ok.ensures.ok) at d.rows_at-after.ensures in

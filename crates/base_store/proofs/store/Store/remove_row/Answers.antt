@@ -1,4 +1,4 @@
-use Rattle.std.proofs.Common.{◌++◌, length, arith}
+use Rattle.std.proofs.Common.{arith}
 use Rattle.view_steps.specs.Edits.{edited, removing}
 use Rattle.view_steps.specs.Views.{base_at}
 use Rattle.base_store.specs.Stored.{Stored}
@@ -16,7 +16,7 @@ rows_at-after-requires c d =
 
 pub overflow_sub-self : goal.overflow_sub-self
 overflow_sub-self c d =
-    let s : Stored = record { world = d.self.inside.slots.items; nodes = d.self.inside.nodes.items ++ d.self.inside.temporary.items; lasting = length d.self.inside.nodes.items; handles = d.self.inside.handles } in
+    let s : Stored = record { world = d.self.inside.slots.items; nodes = d.self.inside.nodes.made; lasting = d.self.inside.nodes.lasting; handles = d.self.inside.handles } in
     let lt = rw (← d.self.view_is, ← d.number-number.ensures) at d.requires.base in
     let at = numbers_at (base_at d.self.inside.slots.items d.number-number.result).rows d.args.at.now in
     let after = d.remove_in.ensures.after at.0 at.1 in
@@ -28,7 +28,7 @@ overflow_sub-self c d =
 
 pub overflow_add-self : goal.overflow_add-self
 overflow_add-self c d =
-    let s : Stored = record { world = d.self.inside.slots.items; nodes = d.self.inside.nodes.items ++ d.self.inside.temporary.items; lasting = length d.self.inside.nodes.items; handles = d.self.inside.handles } in
+    let s : Stored = record { world = d.self.inside.slots.items; nodes = d.self.inside.nodes.made; lasting = d.self.inside.nodes.lasting; handles = d.self.inside.handles } in
     let lt = rw (← d.self.view_is, ← d.number-number.ensures) at d.requires.base in
     let at = numbers_at (base_at d.self.inside.slots.items d.number-number.result).rows d.args.at.now in
     let after = d.remove_in.ensures.after at.0 at.1 in
@@ -40,7 +40,7 @@ overflow_add-self c d =
 
 pub invariant_of-self : goal.invariant_of-self
 invariant_of-self c d =
-    let s : Stored = record { world = d.self.inside.slots.items; nodes = d.self.inside.nodes.items ++ d.self.inside.temporary.items; lasting = length d.self.inside.nodes.items; handles = d.self.inside.handles } in
+    let s : Stored = record { world = d.self.inside.slots.items; nodes = d.self.inside.nodes.made; lasting = d.self.inside.nodes.lasting; handles = d.self.inside.handles } in
     let lt = rw (← d.self.view_is, ← d.number-number.ensures) at d.requires.base in
     let at = numbers_at (base_at d.self.inside.slots.items d.number-number.result).rows d.args.at.now in
     let after = d.remove_in.ensures.after at.0 at.1 in
@@ -52,7 +52,7 @@ invariant_of-self c d =
 
 pub returns-clause-few : goal.returns-clause-few
 returns-clause-few c d =
-    let s : Stored = record { world = d.self.inside.slots.items; nodes = d.self.inside.nodes.items ++ d.self.inside.temporary.items; lasting = length d.self.inside.nodes.items; handles = d.self.inside.handles } in
+    let s : Stored = record { world = d.self.inside.slots.items; nodes = d.self.inside.nodes.made; lasting = d.self.inside.nodes.lasting; handles = d.self.inside.handles } in
     let lt = rw (← d.self.view_is, ← d.number-number.ensures) at d.requires.base in
     let at = numbers_at (base_at d.self.inside.slots.items d.number-number.result).rows d.args.at.now in
     let after = d.remove_in.ensures.after at.0 at.1 in

@@ -1,5 +1,5 @@
-use Rattle.fn_lang.proofs.FlatLaws.{pred_kept}
+use Rattle.fn_lang.specs.Flat.{pred_whole}
 use Rattle.fn_lang.proofs.values.Pred.of_parts.Goals as goal
 
 pub returns : goal.returns
-returns c = pred_kept c.with_blanks.result c.args.parts.now c.with_blanks.ensures c.requires.tree
+returns c = pred_whole c.args.parts.items c.requires

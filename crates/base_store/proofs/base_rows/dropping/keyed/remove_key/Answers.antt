@@ -3,8 +3,8 @@ use Rattle.base_store.specs.Journals.{items_by}
 use Rattle.base_store.proofs.base_rows.dropping.keyed.remove_key.Goals as goal
 use Rattle.view_steps.proofs.PlaceLemmas.{at_key}
 
-pub returns-in-Key : goal.returns-in-Key
-returns-in-Key g c = λ numbers at. gone_key g.V.RowValue.row_of g.met.V.RowValue.key_kept (g.K.Keyed.rows c.args.rows.now) (g.K.Keyed.rows c.remove.new.self) c.in-Key.k c.requires.0 c.args.at.now numbers c.len-len.ensures.distinct c.requires.1 c.in-Key.is c.remove.ensures.rows at
+pub returns-in-Key-clause-rows : goal.returns-in-Key-clause-rows
+returns-in-Key-clause-rows g c = λ numbers at. gone_key g.V.RowValue.row_of g.met.V.RowValue.key_kept (g.K.Keyed.rows c.args.rows.now) (g.K.Keyed.rows c.remove.new.self) c.in-Key.k c.requires.0 c.args.at.now numbers c.len-len.ensures.distinct c.requires.1 c.in-Key.is c.remove.ensures.rows at
 
 pub returns-in_default : goal.returns-in_default
 returns-in_default g c =

@@ -12,8 +12,8 @@ remove_at-requires g c =
     let number : c.in-Index.i ≡ 0 + c.requires.0 = same_index c.in-Index.i (0 + c.requires.0) (sym c.in-Index.is ∙ at.0) in
     omega (arith, at.1, length-map c.args.rows.now One)
 
-pub returns-in-Index : goal.returns-in-Index
-returns-in-Index g c = λ numbers at. index_gone c.args.rows.now c.remove_at.new.self c.in-Index.i c.args.at.now numbers c.in-Index.is at c.remove_at.ensures.items
+pub returns-in-Index-clause-rows : goal.returns-in-Index-clause-rows
+returns-in-Index-clause-rows g c = λ numbers at. index_gone c.args.rows.now c.remove_at.new.self c.in-Index.i c.args.at.now numbers c.in-Index.is at c.remove_at.ensures.items
 
 pub returns-in_default : goal.returns-in_default
 returns-in_default g c =

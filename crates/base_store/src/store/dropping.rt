@@ -1,0 +1,170 @@
+//! Removing from a base what a view shows.
+ghost use Rattle.std.specs.Prelude.{◌≡◌, ◌<◌, ◌≤◌, ◌^◌, ◌++◌, is_some, length, true};
+ghost use Rattle.std.specs.List.{list_any};
+ghost use Rattle.base_store.specs.BaseLanes as spec;
+ghost use Rattle.base_store.specs.Hits.{StandBelow};
+ghost use Rattle.base_store.specs.Nodes.{view_at};
+ghost use Rattle.base_store.specs.Reaches.{Reaches};
+ghost use Rattle.base_store.specs.Stored.{view_in, with_world};
+ghost use Rattle.elem.specs.Keyed.{value_at};
+ghost use Rattle.view_steps.specs.declared.items.Item.{Item as AnItem};
+ghost use Rattle.view_steps.specs.declared.lanes.Lane.TheVariants as lanes;
+ghost use Rattle.view_steps.specs.Answering.{all_hits};
+ghost use Rattle.view_steps.specs.Edits.{edited, removing, world_after};
+ghost use Rattle.view_steps.specs.Items.{key_of};
+ghost use Rattle.view_steps.specs.Limits.{rows_in, most_rows};
+ghost use Rattle.view_steps.specs.Places.{HasKeys};
+ghost use Rattle.view_steps.specs.RowForm.{form_of, is_row_hit, shows};
+ghost use Rattle.view_steps.specs.Shapes.{is_keyed};
+ghost use Rattle.view_steps.specs.Views.{base_at, base_under, candidates, shape_at, shown};
+
+use super::nodes::Nodes;
+use super::shown::Shown;
+use super::writing::rows_at;
+use super::{Slot, Store};
+use crate::reach::Reach;
+use crate::{AnyRef, Node, RowTest};
+use elem::Steps;
+use linked_base::FreeLinkedMap;
+use std::sync::ledger::Ledger;
+use view_steps::{Family, Lane, family_of, narrow};
+
+impl Store {
+    /// Removes the rows that a view shows whose items pass a test, and tells whether there were any. It looks at the
+    /// rows of the view's window alone, and takes no memory.
+    pub fn drop_shown<T: RowTest, L: Ledger>(
+        &mut self,
+        n: AnyRef,
+        test: &T,
+        steps: &mut Steps<L>,
+    ) -> bool
+        requires node { n < length self.old.nodes }
+        requires change { (base_at self.old.world (base_under (view_in self.old n))).change < 2 ^ 63 }
+        ensures any { result ≡ list_any (T.passes test.now) (shown self.old.world (view_in self.old n)) }
+        ensures after { self.new ≡ with_world self.old (world_after self.old.world (base_under (view_in self.old n)) (removing (all_hits (T.passes test.now) (candidates self.old.world (view_in self.old n))))) }
+        ensures few { rows_in self.new.world ≤ most_rows }
+    {
+        let lane = self.base_lane(n, &Lane::All);
+        let reach = self.reach_of(n, test, &lane);
+        self.drop_reached(n, reach, test, steps)
+    }
+
+    /// Removes the same rows from under a view in which no two items have the same key, where only items of some keys
+    /// pass. It looks at the rows of these keys alone.
+    pub fn drop_of_keys<T: RowTest, L: Ledger>(
+        &mut self,
+        n: AnyRef,
+        keys: &FreeLinkedMap<()>,
+        test: &T,
+        steps: &mut Steps<L>,
+    ) -> bool
+        requires node { n < length self.old.nodes }
+        requires keyed { is_keyed (shape_at self.old.world (view_in self.old n)) ≡ true }
+        requires keys { (item : AnItem) → T.passes test.now item ≡ true → is_some (value_at keys.now (key_of item)) ≡ true }
+        requires change { (base_at self.old.world (base_under (view_in self.old n))).change < 2 ^ 63 }
+        ensures any { result ≡ list_any (T.passes test.now) (shown self.old.world (view_in self.old n)) }
+        ensures after { self.new ≡ with_world self.old (world_after self.old.world (base_under (view_in self.old n)) (removing (all_hits (T.passes test.now) (candidates self.old.world (view_in self.old n))))) }
+        ensures few { rows_in self.new.world ≤ most_rows }
+    {
+        let _base = self.base_of(n);
+        self.drop_reached(n, Reach::At(keys), test, steps)
+    }
+
+    /// Removes the rows that a view shows whose items pass a test, which a reach holds.
+    fn drop_reached<T: RowTest, L: Ledger>(
+        &mut self,
+        n: AnyRef,
+        reach: Reach<'_>,
+        test: &T,
+        steps: &mut Steps<L>,
+    ) -> bool
+        requires node { n < length self.old.nodes }
+        requires change { (base_at self.old.world (base_under (view_in self.old n))).change < 2 ^ 63 }
+        requires reach { Reaches (base_at self.old.world (base_under (view_in self.old n))).kind reach (is_row_hit (T.passes test.now) (form_of (view_in self.old n))) }
+        ensures any { result ≡ list_any (T.passes test.now) (shown self.old.world (view_in self.old n)) }
+        ensures after { self.new ≡ with_world self.old (world_after self.old.world (base_under (view_in self.old n)) (removing (all_hits (T.passes test.now) (candidates self.old.world (view_in self.old n))))) }
+        ensures few { rows_in self.new.world ≤ most_rows }
+    {
+        let at = self.base_of(n).number();
+        let before = rows_at(self.slots.as_slice(), at);
+        drop_in(
+            &mut self.slots,
+            at,
+            &self.nodes,
+            n.number(),
+            reach,
+            test,
+            steps,
+        );
+        let after = rows_at(self.slots.as_slice(), at);
+        self.rows = self.rows - before + after;
+        after < before
+    }
+
+    /// Where the rows stand that a view shows whose items pass a test: in the lane of its base, if not all go.
+    fn reach_of<'a, T: RowTest>(&self, n: AnyRef, test: &T, lane: &'a Lane) -> Reach<'a>
+        requires node { n < length self.now.nodes }
+        requires lane { lane.now ≡ spec.base_lane (view_in self.now n) lanes.All }
+        ensures { Reaches (base_at self.now.world (base_under (view_in self.now n))).kind result (is_row_hit (T.passes test.now) (form_of (view_in self.now n))) }
+    {
+        let _base = self.base_of(n);
+        if test.takes_all() {
+            if self.shows_each(n) {
+                return Reach::Whole;
+            }
+        }
+        Reach::Along(lane)
+    }
+
+    /// Whether no step of a view leaves a row out or hides one.
+    fn shows_each(&self, n: AnyRef) -> bool
+        requires { n < length self.now.nodes }
+        ensures { result ≡ true → (row : AnItem) → shows (form_of (view_in self.now n)) row ≡ true }
+    {
+        match self.node(n) {
+            Node::Base(_) => true,
+            Node::Step { step, parent } => match family_of(&step) {
+                Family::Hidden | Family::Cut => false,
+                _ => self.shows_each(parent),
+            },
+        }
+    }
+
+    /// A lane of a view, as its steps pass it down to the base.
+    fn base_lane(&self, n: AnyRef, lane: &Lane) -> Lane
+        requires { n < length self.now.nodes }
+        ensures { result ≡ spec.base_lane (view_in self.now n) lane.now }
+    {
+        match self.node(n) {
+            Node::Base(_) => *lane,
+            Node::Step { step, parent } => {
+                let below = narrow(&step, lane).unwrap_or(Lane::Nothing);
+                self.base_lane(parent, &below)
+            }
+        }
+    }
+}
+
+/// Removes the rows of a base that a view over it shows whose items pass a test, which a reach holds.
+fn drop_in<T: RowTest, L: Ledger>(
+    slots: &mut Vec<Slot>,
+    b: usize,
+    nodes: &Nodes,
+    n: usize,
+    reach: Reach<'_>,
+    test: &T,
+    steps: &mut Steps<L>,
+)
+    requires base { b < length slots.old.items }
+    requires change { (base_at slots.old.items b).change < 2 ^ 63 }
+    requires within { n < length nodes.now.made }
+    requires below { StandBelow nodes.now.made }
+    requires under { b ≡ base_under (view_at nodes.now.made n) }
+    requires reach { Reaches (base_at slots.old.items b).kind reach (is_row_hit (T.passes test.now) (form_of (view_at nodes.now.made n))) }
+    ensures after { slots.new.items ≡ world_after slots.old.items b (removing (all_hits (T.passes test.now) (candidates slots.old.items (view_at nodes.now.made n)))) }
+    ensures keys { HasKeys (edited (base_at slots.old.items b) (removing (all_hits (T.passes test.now) (candidates slots.old.items (view_at nodes.now.made n))))) }
+{
+    let shown = Shown { nodes, n, test };
+    let slot = &mut slots[b];
+    slot.drop_all(reach, &shown, steps);
+}

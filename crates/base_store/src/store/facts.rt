@@ -1,0 +1,74 @@
+//! What is constant of a view, as long as the kind of its base and its frozen mark are.
+ghost use Rattle.std.specs.Prelude.{◌≡◌, ◌<◌, ◌^◌};
+ghost use Rattle.base_store.specs.Facts.{facts_at};
+ghost use Rattle.view_steps.specs.Steps as table;
+ghost use Rattle.view_steps.specs.Views.{World, View, base, base_at, over, shape_after};
+
+use elem::{Cut, Window};
+use view_steps::{
+    Flags, Kind, Shape, Step, apply, flags_after, flipped, shape_of_kind, window_over,
+};
+
+/// What is constant of a view. It is told once, when the view is made.
+#[derive(Clone, Copy, Debug)]
+pub struct Facts {
+    /// The base under it.
+    pub base: usize,
+    /// How many steps lead to it.
+    pub path: usize,
+    pub shape: Shape,
+    /// What it allows.
+    pub flags: Flags,
+    /// The window of the last `within` on its path.
+    pub window: Window,
+    /// Whether it is walked from the back of its base.
+    pub turned: bool,
+}
+
+impl Facts {
+    /// Those of a base.
+    pub(super) fn of_base(b: usize, kind: Kind, frozen: bool) -> Facts
+        ensures { (world : World) → (base_at world b).kind ≡ kind → (base_at world b).frozen ≡ frozen → result ≡ facts_at world (base b) }
+    {
+        Facts {
+            base: b,
+            path: 0,
+            shape: shape_of_kind(kind),
+            flags: Flags {
+                add: !frozen,
+                remove: !frozen,
+                iterate: !frozen,
+            },
+            window: Window {
+                lo: Cut::Start,
+                hi: Cut::End,
+            },
+            turned: false,
+        }
+    }
+
+    /// Those of a step over a view that has these.
+    pub(super) fn over(&self, step: &Step) -> Facts
+        requires { self.now.path < 2 ^ 63 }
+        ensures { (world : World) (v : View) → self.now ≡ facts_at world v → result ≡ facts_at world (over step.now v) }
+    {
+        Facts {
+            base: self.base,
+            path: self.path + 1,
+            shape: shape_over(self.shape, step),
+            flags: flags_after(&self.shape, step, self.flags),
+            window: window_over(step, &self.window),
+            turned: flipped(step, self.turned),
+        }
+    }
+}
+
+/// The shape of a step over a view of a shape. A step that the table doesn't have leaves it.
+fn shape_over(below: Shape, step: &Step) -> Shape
+    ensures { result ≡ shape_after below (table.apply below step.now) }
+{
+    match apply(&below, step) {
+        Some(shape) => shape,
+        None => below,
+    }
+}

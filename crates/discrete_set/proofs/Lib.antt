@@ -1,0 +1,9 @@
+pub mod NumberLaws
+pub mod RunLaws
+pub mod CountLaws
+pub mod KeptLaws
+pub mod SearchLaws
+pub mod JoinLaws
+pub mod MergeLaws
+pub mod SetLaws
+pub mod CanonicalLaws

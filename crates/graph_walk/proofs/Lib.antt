@@ -1,0 +1,12 @@
+mod PlaceLemmas
+mod FoundLemmas
+mod TurnLemmas
+mod NextsLemmas
+mod PathLemmas
+mod GrownLemmas
+mod GrownSteps
+mod BreadthLemmas
+mod VisitLemmas
+mod StackLemmas
+mod ReachLemmas
+mod ClosureLemmas

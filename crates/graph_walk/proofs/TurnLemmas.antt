@@ -1,0 +1,54 @@
+-- Going through a list from each element to the one behind it.
+use Rattle.std.proofs.Common.{◌≡◌, Bool, true, false, cond, ◌||◌, List, [], ◌∷◌, Option, Some, None, slice_get, refl, ap, sym, ◌∙◌}
+use Rattle.std.specs.List.{IsDistinct, AllByRecursion}
+use Rattle.std.proofs.lemmas.Bool.{both_ways}
+use Rattle.elem.specs.declared.elements.Elem.{Elem}
+use Rattle.elem.specs.Elements.{same}
+use Rattle.elem.specs.ElementLaws.{same_equiv}
+use Rattle.graph_walk.specs.Graphs.{is_in}
+use Rattle.graph_walk.specs.Places.{after, from_on, left_at, IsAmong}
+use Rattle.graph_walk.proofs.PlaceLemmas.{same-is, in_tail}
+
+among_tail : (o : Option Elem) (y : Elem) (ys : List Elem) → IsAmong o ys → IsAmong o (y ∷ ys)
+among_tail None y ys h = tt
+among_tail (Some x) y ys h = in_tail x y ys h
+
+pub first_among : (xs : List Elem) → IsAmong (slice_get xs 0) xs
+first_among [] = tt
+first_among (x ∷ xs) = ap (λ b. b || is_in x xs) (same_equiv.refl x)
+
+pub after_among : (x : Elem) (xs : List Elem) → IsAmong (after x xs) xs
+after_among x [] = tt
+after_among x (y ∷ ys) = elim (same x y) as (λ b. IsAmong (cond b (slice_get ys 0) (after x ys)) (y ∷ ys)) [ true ↦ among_tail (slice_get ys 0) y ys (first_among ys) | false ↦ among_tail (after x ys) y ys (after_among x ys) ]
+
+pub left-first : (xs : List Elem) → left_at (slice_get xs 0) xs ≡ xs
+left-first [] = refl
+left-first (x ∷ xs) = ap (λ b. cond b (x ∷ xs) (from_on x xs)) (same_equiv.refl x)
+
+apart_head : (x y : Elem) (ys : List Elem) → IsDistinct same (y ∷ ys) → is_in x ys ≡ true → same x y ≡ false
+unfolding IsDistinct
+apart_head x y ys d h = apart x ys (d.0) h
+  where
+    apart : (x : Elem) (zs : List Elem) → AllByRecursion (λ z. same y z ≡ false) zs → is_in x zs ≡ true → same x y ≡ false
+    apart x [] all i = absurd (both_ways _ refl i)
+    apart x (z ∷ zs) all i = by_case (same x z) refl i (apart x zs all.1)
+      where
+        by_case : (b : Bool) → same x z ≡ b → (b || is_in x zs) ≡ true → (is_in x zs ≡ true → same x y ≡ false) → same x y ≡ false
+        by_case true e j rest = same_equiv.symm x y ∙ ap (λ w. same y w) (same-is x z e) ∙ all.0
+        by_case false e j rest = rest j
+
+distinct_tail : (y : Elem) (ys : List Elem) → IsDistinct same (y ∷ ys) → IsDistinct same ys
+unfolding IsDistinct
+distinct_tail y ys d = d.1
+
+left_tail : (o : Option Elem) (y : Elem) (ys : List Elem) → IsDistinct same (y ∷ ys) → IsAmong o ys → left_at o (y ∷ ys) ≡ left_at o ys
+left_tail None y ys d h = refl
+left_tail (Some x) y ys d h = ap (λ b. cond b (y ∷ ys) (from_on x ys)) (apart_head x y ys d h)
+
+pub left-after : (x : Elem) (xs : List Elem) → IsDistinct same xs → is_in x xs ≡ true → from_on x xs ≡ x ∷ left_at (after x xs) xs
+left-after x [] d h = absurd (both_ways _ refl h)
+left-after x (y ∷ ys) d h = by_case (same x y) refl h (left-after x ys (distinct_tail y ys d))
+  where
+    by_case : (b : Bool) → same x y ≡ b → (b || is_in x ys) ≡ true → (is_in x ys ≡ true → from_on x ys ≡ x ∷ left_at (after x ys) ys) → cond b (y ∷ ys) (from_on x ys) ≡ x ∷ left_at (cond b (slice_get ys 0) (after x ys)) (y ∷ ys)
+    by_case true e i rest = ap (λ z. z ∷ ys) (sym (same-is x y e)) ∙ ap (λ zs. x ∷ zs) (sym (left_tail (slice_get ys 0) y ys d (first_among ys) ∙ left-first ys))
+    by_case false e i rest = rest i ∙ ap (λ zs. x ∷ zs) (sym (left_tail (after x ys) y ys d (after_among x ys)))

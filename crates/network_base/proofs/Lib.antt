@@ -1,0 +1,13 @@
+pub mod Positions
+pub mod NamedLemmas
+pub mod AtNode
+pub mod AllEdges
+pub mod NetworkLemmas
+pub mod Passing
+pub mod Centres
+pub mod EdgeAfter
+pub mod NextPassing
+pub mod ShownLemmas
+pub mod SpotLemmas
+pub mod Rising
+pub mod Merging

@@ -1,0 +1,14 @@
+pub mod Shapes
+pub mod Orders
+pub mod Windows
+pub mod Kinds
+pub mod Items
+pub mod Limits
+pub mod LeafShapes
+pub mod Steps
+pub mod StepShapes
+pub mod Joins
+pub mod Refusals
+pub mod Fits
+pub mod Needs
+pub mod Words
