@@ -1,5 +1,5 @@
 -- Walks over what a view shows.
-use Rattle.std.specs.Prelude.{◌≡◌, ℕ, zero, suc, Bool, ◌<◌, List, [], ◌∷◌, length, map, filter, slice_get, drop, Option, None, Some}
+use Rattle.std.specs.Prelude.{◌≡◌, ℕ, zero, suc, Bool, ◌<◌, List, [], ◌∷◌, length, map, filter, slice_get, drop, Option, None, Some, if◌then◌else◌}
 use Rattle.base_store.specs.Stored.{Stored, view_in}
 use Rattle.read_chain.specs.declared.walks.Walk.{Walk}
 use Rattle.view_steps.specs.declared.items.Item.{Item}
@@ -27,6 +27,11 @@ is_seen_there d = d.seen
 
 abbrev pub item_there : Found → Item
 item_there d = d.item
+
+-- the item that is seen at a place, by what the view has there
+abbrev pub shown_there : Option Found → Option Item
+shown_there None = None
+shown_there (Some d) = if d.seen then Some d.item else None
 
 -- the items of what is seen
 abbrev pub seen_items : List Found → List Item

@@ -12,6 +12,7 @@ mod making;
 mod places;
 mod reading;
 mod reads;
+mod seats;
 mod walks;
 
 pub use finding::{ItemTest, find, find_place};
@@ -24,4 +25,5 @@ pub use reads::{
     contains, contains_all, first, has_key, has_value, index_of, is_empty, item_at, last, map_get,
     size,
 };
+pub use seats::{shown_at, walk_after, walk_first};
 pub use walks::Walk;

@@ -1,0 +1,19 @@
+use Rattle.std.proofs.Common.{subst, List, None}
+use Rattle.base_store.specs.Stored.{view_in}
+use Rattle.view_steps.specs.declared.lanes.Lane.TheVariants.{All}
+use Rattle.view_steps.specs.declared.places.Place.{Place}
+use Rattle.view_steps.specs.Lanes.{Follows}
+use Rattle.view_steps.specs.Places.{places}
+use Rattle.view_steps.proofs.ListLemmas.{filter-all}
+use Rattle.view_steps.proofs.MadeLemmas.{lane_straight}
+use Rattle.read_chain.proofs.seats.walk_first.Goals as goal
+
+pub next_place-requires-clause-straight : goal.next_place-requires-clause-straight
+next_place-requires-clause-straight g c =
+    let s = c.args.store.now in
+    lane_straight s.world (view_in s c.args.n) All c.base_of-base.ensures.made tt
+
+pub returns-clause-first : goal.returns-clause-first
+returns-clause-first g c =
+    let s = c.args.store.now in
+    subst (λ (ps : List Place). Follows ps None c.next_place.result) (filter-all (places s.world (view_in s c.args.n))) c.next_place.ensures.next
