@@ -11,8 +11,10 @@ mod clearing;
 mod lifting;
 mod members;
 mod others;
+mod places;
 mod putting;
 mod removing;
 mod spots;
 
 pub use calling::{call, call_with};
+pub use places::drop_place;
