@@ -4,6 +4,9 @@ use Rattle.base_store.specs.Stored.{Stored, view_in}
 use Rattle.view_steps.specs.declared.answers.Answer.{Answer}
 use Rattle.view_steps.specs.declared.answers.Answer.TheVariants.{Element}
 use Rattle.view_steps.specs.declared.calls.Call.{Call}
+use Rattle.view_steps.specs.declared.calls.Call.TheVariants as call
+use Rattle.view_steps.specs.declared.calls.OnElement.TheVariants.{Contains, ValueOf, ContainsKey}
+use Rattle.view_steps.specs.declared.calls.OnPair.TheVariants.{ContainsEntry}
 use Rattle.view_steps.specs.declared.items.Item.{Item}
 use Rattle.view_steps.specs.declared.places.Place.{Place}
 use Rattle.view_steps.specs.declared.refusals.Refusal.{Refusal}
@@ -51,3 +54,11 @@ refusal_in (Err why) = Some why
 pub record StandsAt (world : World) (v : View) (p : Place) (numbers : List ℕ) : Type 0 where
   pub place : IsFrom (places world (base (base_under v))) (Some p)
   pub row : IsRowAt (base_at world (base_under v)).rows p numbers
+
+-- whether a call asks for one item, which a view that goes by key finds by its key
+abbrev pub is_look_up : Call → Bool
+is_look_up (call.Element Contains x) = true
+is_look_up (call.Element ValueOf k) = true
+is_look_up (call.Element ContainsKey k) = true
+is_look_up (call.Pair ContainsEntry k v) = true
+is_look_up other = false

@@ -1,11 +1,12 @@
 //! The calls that only read.
-ghost use Rattle.std.specs.Prelude.{◌≡◌, ◌<◌, length, true, nat_lt, Ok, ◌≢◌, Err};
+ghost use Rattle.std.specs.Prelude.{◌≡◌, ◌<◌, ◌≤◌, ◌+◌, length, true, nat_lt, Ok, ◌≢◌, Err};
 ghost use Rattle.base_store.specs.Stored.{view_in};
-ghost use Rattle.read_chain.specs.Reads.{element_told, shown_in, told};
+ghost use Rattle.read_chain.specs.Reads.{element_told, is_look_up, shown_in, told};
 ghost use Rattle.view_steps.specs.Answering.{index_refusal, unless_refused};
 ghost use Rattle.view_steps.specs.Answers as answers;
 ghost use Rattle.view_steps.specs.Calls as spec;
 ghost use Rattle.view_steps.specs.Indexes.{is_list};
+ghost use Rattle.view_steps.specs.Shapes.{is_keyed};
 ghost use Rattle.view_steps.specs.Views.{shape_at};
 ghost use Rattle.view_steps.specs.declared.calls.Call.TheVariants as calls;
 ghost use Rattle.view_steps.specs.declared.refusals.Refusal.TheVariants.{NoMemory};
@@ -31,6 +32,7 @@ pub fn read<L: Ledger>(
     requires reads { spec.needs_of call.now ≡ needs.Nothing }
     ensures answer { result ≡ told store.now.world (view_in store.now n) call.now }
     ensures memory { result ≢ Err NoMemory }
+    ensures steps { is_look_up call.now ≡ true → is_keyed (shape_at store.now.world (view_in store.now n)) ≡ true → steps.new ≤ steps.old + 1 }
 {
     match call {
         Call::Ask(word) => read_ask(store, n, *word, steps),
@@ -86,7 +88,8 @@ fn read_element<L: Ledger>(
     requires node { n < length store.now.nodes }
     requires fits { spec.fits_element (shape_at store.now.world (view_in store.now n)) word ≡ true }
     requires reads { spec.needs_of (calls.Element word x.now) ≡ needs.Nothing }
-    ensures { result ≡ answers.element_answer (shape_at store.now.world (view_in store.now n)) word x.now (shown_in store.now n) }
+    ensures answer { result ≡ answers.element_answer (shape_at store.now.world (view_in store.now n)) word x.now (shown_in store.now n) }
+    ensures steps { is_look_up (calls.Element word x.now) ≡ true → is_keyed (shape_at store.now.world (view_in store.now n)) ≡ true → steps.new ≤ steps.old + 1 }
 {
     match word {
         OnElement::Contains => Answer::Truth(contains(store, n, &Item::One(*x), steps)),

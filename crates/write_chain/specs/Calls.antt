@@ -5,8 +5,6 @@ use Rattle.view_steps.specs.declared.answers.Answer.{Answer}
 use Rattle.view_steps.specs.declared.calls.Call.{Call}
 use Rattle.view_steps.specs.declared.calls.Call.TheVariants as call
 use Rattle.view_steps.specs.declared.calls.OnElement.TheVariants.{Add, Remove, RemoveKey}
-use Rattle.view_steps.specs.declared.calls.OnOther.{OnOther}
-use Rattle.view_steps.specs.declared.calls.OnOther.TheVariants.{ContainsAll}
 use Rattle.view_steps.specs.declared.calls.OnPair.TheVariants.{Put, RemoveEntry}
 use Rattle.view_steps.specs.declared.edits.Spot.{Spot}
 use Rattle.view_steps.specs.declared.items.Item.{Item}

@@ -10,6 +10,7 @@ ghost use Rattle.view_steps.specs.Steps as table;
 ghost use Rattle.view_steps.specs.Views.{flags_at, shape_at};
 ghost use Rattle.view_steps.specs.declared.calls.Call.TheVariants as calls;
 ghost use Rattle.view_steps.specs.declared.refusals.Refusal.TheVariants.{NoMemory};
+ghost use Rattle.read_chain.specs.Reads.{is_look_up};
 ghost use Rattle.write_chain.specs.Calls.{Came, is_single};
 ghost use Rattle.view_steps.specs.Memory.{adds_rows, wants_memory_with};
 
@@ -46,6 +47,7 @@ pub fn call<L: Ledger>(
     ensures memory { result ≡ Err NoMemory → adds_rows store.old.world (answered store.old.world (view_in store.old n) call.now) ≡ true }
     ensures changes { (most : ℕ) → ChangesUpTo most store.old.world → ChangesUpTo (most + 1) store.new.world }
     ensures steps { is_single call.now ≡ true → is_keyed (shape_at store.old.world (view_in store.old n)) ≡ true → steps.new ≤ steps.old + 4 }
+    ensures looks_up { is_look_up call.now ≡ true → is_keyed (shape_at store.old.world (view_in store.old n)) ≡ true → steps.new ≤ steps.old + 1 }
 {
     let flags = store.flags_of(n);
     if lacks(flags, needs_of(call)) {
@@ -68,6 +70,7 @@ fn carry_out<L: Ledger>(
     ensures came { Came result store.old store.new (answered store.old.world (view_in store.old n) call.now) }
     ensures memory { result ≡ Err NoMemory → adds_rows store.old.world (answered store.old.world (view_in store.old n) call.now) ≡ true }
     ensures steps { is_single call.now ≡ true → is_keyed (shape_at store.old.world (view_in store.old n)) ≡ true → steps.new ≤ steps.old + 4 }
+    ensures looks_up { is_look_up call.now ≡ true → is_keyed (shape_at store.old.world (view_in store.old n)) ≡ true → steps.new ≤ steps.old + 1 }
 {
     match call {
         Call::Ask(word) => on_ask(store, n, *word, steps),
@@ -112,6 +115,7 @@ fn on_element<L: Ledger>(
     ensures came { Came result store.old store.new (answered store.old.world (view_in store.old n) (calls.Element word x.now)) }
     ensures memory { result ≡ Err NoMemory → adds_rows store.old.world (answered store.old.world (view_in store.old n) (calls.Element word x.now)) ≡ true }
     ensures steps { is_single (calls.Element word x.now) ≡ true → is_keyed (shape_at store.old.world (view_in store.old n)) ≡ true → steps.new ≤ steps.old + 4 }
+    ensures looks_up { is_look_up (calls.Element word x.now) ≡ true → is_keyed (shape_at store.old.world (view_in store.old n)) ≡ true → steps.new ≤ steps.old + 1 }
 {
     match word {
         OnElement::Add => add(store, n, x, steps),
@@ -179,6 +183,7 @@ fn on_pair<L: Ledger>(
     ensures came { Came result store.old store.new (answered store.old.world (view_in store.old n) (calls.Pair word k.now w.now)) }
     ensures memory { result ≡ Err NoMemory → adds_rows store.old.world (answered store.old.world (view_in store.old n) (calls.Pair word k.now w.now)) ≡ true }
     ensures steps { is_single (calls.Pair word k.now w.now) ≡ true → is_keyed (shape_at store.old.world (view_in store.old n)) ≡ true → steps.new ≤ steps.old + 4 }
+    ensures looks_up { is_look_up (calls.Pair word k.now w.now) ≡ true → is_keyed (shape_at store.old.world (view_in store.old n)) ≡ true → steps.new ≤ steps.old + 1 }
 {
     match word {
         OnPair::Put => put(store, n, k, w, steps),

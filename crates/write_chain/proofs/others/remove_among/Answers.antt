@@ -1,4 +1,4 @@
-use Rattle.std.proofs.Common.{ap, sym, ◌∙◌, subst}
+use Rattle.std.proofs.Common.{ap, subst}
 use Rattle.std.specs.Prelude.{Ok}
 use Rattle.base_store.specs.Stored.{view_in}
 use Rattle.view_steps.specs.declared.answers.Answer.{Answer}
