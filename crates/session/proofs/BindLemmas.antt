@@ -78,7 +78,7 @@ module _ (s led now : Stored) (names names' : List (List ℕ × ℕ)) (name : Li
     where
       stands : (x : End) → IsEnd led (Ok x) → node_of x < now.lasting
       stands (end.View n) lt = let l : n < length led.nodes = lt in omega (arith, ap (λ (x : Stored). x.lasting) k.kept, l)
-      stands (end.Call n call) lt = let l : n < length led.nodes = lt in omega (arith, ap (λ (x : Stored). x.lasting) k.kept, l)
+      stands (end.Call n call) lt = let l : n < length led.nodes = lt.0 in omega (arith, ap (λ (x : Stored). x.lasting) k.kept, l)
       stands (end.With n word other) lt = let l : n < length led.nodes = lt.0 in omega (arith, ap (λ (x : Stored). x.lasting) k.kept, l)
   settled_kept (Ok u) (Err why) h k = absurd k
   settled_kept (Err why) (Ok e) h k = subst (λ (x : Stored). IsSettled x names') (sym (as_before s led names (Ok e) h now k.0.dropped)) (subst (λ (ns : List (List ℕ × ℕ)). IsSettled s ns) (sym k.0.same) h.settled)

@@ -1,25 +1,19 @@
 -- What a call says and what it leaves of the store, as the outcome of a line.
-use Rattle.std.proofs.Common.{◌≡◌, ◌≢◌, ℕ, ◌+◌, ◌≤◌, Bool, true, false, cond, List, [], ◌∷◌, ◌++◌, Option, None, Some, Result, Ok, Err, refl, sym, ◌∙◌, ap, subst, arith}
-use Rattle.std.specs.Prelude.{codes}
+use Rattle.std.proofs.Common.{◌≡◌, ◌≢◌, ℕ, ◌+◌, ◌≤◌, Bool, true, false, List, [], ◌∷◌, ◌++◌, Option, None, Some, Result, Ok, Err, refl, sym, ◌∙◌, ap, subst, arith}
 use Rattle.base_store.specs.Stored.{Stored, with_world}
 use Rattle.elem.specs.Outside.{Stays}
 use Rattle.view_steps.specs.declared.answers.Answer.{Answer}
-use Rattle.view_steps.specs.declared.calls.Call.{Call}
-use Rattle.view_steps.specs.declared.calls.OnOther.{OnOther}
 use Rattle.view_steps.specs.declared.refusals.Refusal.{Refusal}
 use Rattle.view_steps.specs.declared.refusals.Refusal.TheVariants as refusal
-use Rattle.view_steps.specs.declared.shapes.Shape.{Shape}
-use Rattle.view_steps.specs.Answering.{Answered, answered, answered_with}
+use Rattle.view_steps.specs.Answering.{Answered}
 use Rattle.view_steps.specs.Answers.{answer_text}
-use Rattle.view_steps.specs.Calls.{fits, fits_with}
 use Rattle.view_steps.specs.Limits.{ChangesUpTo}
-use Rattle.view_steps.specs.Memory.{adds_rows, wants_memory_with}
 use Rattle.view_steps.specs.Refusals.{name_of}
-use Rattle.view_steps.specs.Views.{View, World, shape_at}
+use Rattle.view_steps.specs.Views.{View, World}
 use Rattle.write_chain.specs.Calls.{Came as Answers}
 use Rattle.session.specs.declared.faults.ExecFault.{ExecFault}
 use Rattle.session.specs.declared.faults.ExecFault.TheVariants.{WriteFault, NoMemory}
-use Rattle.session.specs.Called.{called, called_with, replied}
+use Rattle.session.specs.Called.{replied}
 use Rattle.session.specs.Coming.{Came, seen_as}
 use Rattle.session.specs.Executing.{Does, Executed}
 use Rattle.session.specs.Outcomes.{Outcome, says}
@@ -108,37 +102,3 @@ module _ {r : Result (Unit {0}) ExecFault} {t u : Option (List ℕ)} {f g : ℕ}
       came_with s now done.1 outcome (answer_text answer) memory answers.1 calm (λ names. ap (λ (a : Answer). let o : Outcome = record { reply = Some (answer_text a); after = with_bases (seen_as s names) done.1; memory = memory } in o) answers.0 ∙ is names) said
   came_told (Ok answer) s now outcome memory (Err why) answers calm is wants said = absurd answers
   came_told (Err why) s now outcome memory done answers calm is wants said = came_refused why s now outcome memory done answers is (λ e. wants (ap (λ (w : Refusal). Err w) e)) said
-
--- ---- calls, by whether the views have them
-
--- what is said of a call that a view does not have
-abbrev not_there : List ℕ
-not_there = codes "?call"
-
--- by a test that was made on shapes that are known
-by_test : (b c : Bool) (it other : Outcome) → b ≡ c → cond b it other ≡ cond c it other
-by_test b c it other e = ap (λ (d : Bool). cond d it other) e
-
-module _ (s : Stored) (view : View) (of : Shape) (known : of ≡ shape_at s.world view) (it : Call) where
-  came_by_fit : (fit : Bool) → fit ≡ fits of it → (names : List (List ℕ × View)) → cond fit (replied (seen_as s names) (adds_rows s.world (answered s.world view it)) (answered s.world view it)) (says (seen_as s names) not_there) ≡ called (seen_as s names) view it
-  came_by_fit fit test names = by_test fit (fits (shape_at s.world view) it) (replied (seen_as s names) (adds_rows s.world (answered s.world view it)) (answered s.world view it)) (says (seen_as s names) not_there) (test ∙ ap (λ (shape : Shape). fits shape it) known)
-
-  pub call_unfit : {r : Result (Unit {0}) ExecFault} {t u : Option (List ℕ)} {f g : ℕ} → false ≡ fits of it → Said r t u f g (not_there ++ 10 ∷ []) → Came r s s (λ state. called state view it) t u f g
-  call_unfit test said = came_said s s (λ state. called state view it) not_there refl (came_by_fit false test) said
-
-  pub call_told : {r : Result (Unit {0}) ExecFault} {t u : Option (List ℕ)} {f g : ℕ} (now : Stored) (answer : Result Answer Refusal) → true ≡ fits of it → Answers answer s now (answered s.world view it) → IsCalm s.world now.world
-      → (answer ≡ Err refusal.NoMemory → adds_rows s.world (answered s.world view it) ≡ true) → Tells answer r t u f g → Came r s now (λ state. called state view it) t u f g
-  call_told now answer test answers calm wants said = came_told answer s now (λ state. called state view it) (adds_rows s.world (answered s.world view it)) (answered s.world view it) answers calm (came_by_fit true test) wants said
-
-module _ (s : Stored) (view other : View) (of others : Shape) (known : of ≡ shape_at s.world view) (known_others : others ≡ shape_at s.world other) (word : OnOther) where
-  came_by_fit_with : (fit : Bool) → fit ≡ fits_with of word others → (names : List (List ℕ × View)) → cond fit (replied (seen_as s names) (wants_memory_with s.world view word) (answered_with s.world view word other)) (says (seen_as s names) not_there) ≡ called_with (seen_as s names) view word other
-  came_by_fit_with fit test names =
-      by_test fit (fits_with (shape_at s.world view) word (shape_at s.world other)) (replied (seen_as s names) (wants_memory_with s.world view word) (answered_with s.world view word other)) (says (seen_as s names) not_there) (test ∙ λ i. fits_with (known i) word (known_others i))
-
-  pub call_with_unfit : {r : Result (Unit {0}) ExecFault} {t u : Option (List ℕ)} {f g : ℕ} → false ≡ fits_with of word others → Said r t u f g (not_there ++ 10 ∷ []) → Came r s s (λ state. called_with state view word other) t u f g
-  call_with_unfit test said = came_said s s (λ state. called_with state view word other) not_there refl (came_by_fit_with false test) said
-
-  pub call_with_told : {r : Result (Unit {0}) ExecFault} {t u : Option (List ℕ)} {f g : ℕ} (now : Stored) (answer : Result Answer Refusal) → true ≡ fits_with of word others → Answers answer s now (answered_with s.world view word other) → IsCalm s.world now.world
-      → (answer ≡ Err refusal.NoMemory → wants_memory_with s.world view word ≡ true) → Tells answer r t u f g → Came r s now (λ state. called_with state view word other) t u f g
-  call_with_told now answer test answers calm wants said =
-      came_told answer s now (λ state. called_with state view word other) (wants_memory_with s.world view word) (answered_with s.world view word other) answers calm (came_by_fit_with true test) wants said

@@ -23,16 +23,20 @@ use Rattle.read_chain.specs.Reads.{refusal_in}
 use Rattle.script_text.specs.declared.lines.Part.{Part as Placed}
 use Rattle.script_text.specs.Parts.{part_in}
 use Rattle.session.proofs.EvalLemmas.{take_whole}
+use Rattle.session.specs.declared.following.End.TheVariants as end
 use Rattle.session.specs.declared.typing.Fault.{Fault}
 use Rattle.session.specs.declared.typing.Purpose.{Purpose}
 use Rattle.session.specs.declared.typing.Typed.{Typed}
 use Rattle.session.specs.declared.typing.Typed.TheVariants as typed
 use Rattle.session.specs.Arguments.{of_parts, step_with, within_range}
 use Rattle.session.specs.Environment.{NamesWithin, named}
-use Rattle.session.specs.Following.{Followed, IsTyped, Stepped, Steps, meaning_in, meant_in, target_in}
+use Rattle.session.specs.Following.{Followed, IsEnd, IsTyped, Stepped, Steps, meaning_in, meant_in, target_in}
 use Rattle.session.specs.Machine.{and_then, made, reach, step_over, target, with_ending}
 use Rattle.session.specs.Parts.{Part, parts_in, text_at}
 use Rattle.session.specs.Typing.{Ending, Meaning, Typing, a_step, before, ends, go_on, is_empty, may_call, steps_to, typed_word, typed_words}
+use Rattle.view_steps.specs.declared.calls.Call.{Call}
+use Rattle.view_steps.specs.declared.calls.OnOther.{OnOther}
+use Rattle.view_steps.specs.Calls.{fits, fits_with}
 use Rattle.view_steps.specs.declared.refusals.Refusal.{Refusal}
 use Rattle.view_steps.specs.declared.refusals.Refusal.TheVariants.{IllegalArgument, Limit, NoMemory}
 use Rattle.view_steps.specs.declared.shapes.Shape.{Shape}
@@ -324,3 +328,15 @@ module _ (names : List (List ℕ × ℕ)) (purpose : Purpose) (first s : Stored)
       let ok : IsOk (target_in s names purpose node (part_in line part ∷ parts_in line (behind rest))) = left_ok names purpose first s head node all (part_in line part) (parts_in line (behind rest)) whole at.ok in
       let no = subst (λ (x : Result (Result (View × Ending) Refusal) Fault). IsOk x) (on_fault names purpose s node (part_in line part) (parts_in line (behind rest)) fault (word_is (Err fault) e)) ok in
       cc
+
+-- ---- the calls at an end
+
+module _ (s : Stored) (node : ℕ) (on : Shape) (text : List ℕ) (r : Result Typed Fault) (stands : node < length s.nodes) (shape : on ≡ shape_at s.world (view_in s node)) (given : IfOk r (λ it. IsTyped s on text it)) where
+  -- the node's view has the call that was typed on its shape
+  pub end_call : (call : Call) → r ≡ Ok (typed.Call call) → IsEnd s (Ok (end.Call node call))
+  end_call call e = let had : IsTyped s on text (typed.Call call) = subst (λ (x : Result Typed Fault). IfOk x (λ it. IsTyped s on text it)) e given in (stands, ap (λ (x : Shape). fits x call) (sym shape) ∙ had)
+
+  pub end_with : (word : OnOther) (other : ℕ) → r ≡ Ok (typed.With word other) → IsEnd s (Ok (end.With node word other))
+  end_with word other e =
+      let had : IsTyped s on text (typed.With word other) = subst (λ (x : Result Typed Fault). IfOk x (λ it. IsTyped s on text it)) e given in
+      (stands, had.0, ap (λ (x : Shape). fits_with x word (shape_at s.world (view_in s other))) (sym shape) ∙ had.1)

@@ -1,5 +1,5 @@
 -- Where the words of an expression lead in a store.
-use Rattle.std.specs.Prelude.{◌≡◌, ◌≢◌, ℕ, ◌+◌, ◌<◌, ◌≤◌, List, length, Some, Result, Ok, Err, IsSome}
+use Rattle.std.specs.Prelude.{◌≡◌, ◌≢◌, ℕ, ◌+◌, ◌<◌, ◌≤◌, true, List, length, Some, Result, Ok, Err, IsSome}
 use Rattle.base_store.specs.declared.store.Made.{Made}
 use Rattle.base_store.specs.Stored.{Stored, view_in, with_node, without_temporary}
 use Rattle.session.specs.declared.following.End.{End}
@@ -13,12 +13,16 @@ use Rattle.session.specs.Environment.{named}
 use Rattle.session.specs.Machine.{step_over, target}
 use Rattle.session.specs.Parts.{Part}
 use Rattle.session.specs.Typing.{Ending, Meaning, a_step, ends, shows, calls, calls_with}
+use Rattle.view_steps.specs.declared.calls.Call.{Call}
+use Rattle.view_steps.specs.declared.calls.CallForm.{CallForm}
 use Rattle.view_steps.specs.declared.refusals.Refusal.{Refusal}
 use Rattle.view_steps.specs.declared.refusals.Refusal.TheVariants.{NoMemory}
 use Rattle.view_steps.specs.declared.shapes.Shape.{Shape}
 use Rattle.view_steps.specs.declared.steps.Step.{Step}
+use Rattle.view_steps.specs.Calls.{fits, fits_with}
 use Rattle.view_steps.specs.Steps.{apply_form}
-use Rattle.view_steps.specs.Views.{View, path}
+use Rattle.view_steps.specs.Views.{View, path, shape_at}
+use Rattle.view_steps.specs.WordLaws.{without_arguments}
 
 -- a typed word with the text of its first argument, and the view of its node
 abbrev pub meaning_in : Stored → List ℕ → Typed → Result Meaning Fault
@@ -30,18 +34,23 @@ abbrev pub meant_in : Stored → List ℕ → Result Typed Fault → Result Mean
 meant_in store text (Ok it) = meaning_in store text it
 meant_in store text (Err fault) = Err fault
 
--- what a typed word does on views of a shape: a step that they have, and whose argument the text fits, or a call, with a
--- node of the store
+-- views of a shape have each call of a form
+abbrev pub HasCalls : Shape → CallForm → Type 0
+HasCalls on form = (it : Call) → without_arguments it ≡ form → fits on it ≡ true
+
+-- what a typed word does on views of a shape: a step that they have, and whose argument the text fits, or a call that they
+-- have, with the view of a node of the store
 abbrev pub IsTyped : Stored → Shape → List ℕ → Typed → Type 0
 IsTyped store on text (typed.Step form next) = (apply_form on form ≡ Some next) × IsSome (step_with form text)
-IsTyped store on text (typed.Call call) = Unit {0}
-IsTyped store on text (typed.With word other) = other < length store.nodes
+IsTyped store on text (typed.Call call) = fits on call ≡ true
+IsTyped store on text (typed.With word other) = (other < length store.nodes) × (fits_with on word (shape_at store.world (view_in store other)) ≡ true)
 
--- an end is at a node of the store; a refusal is not want of memory, which no word tells
+-- an end is at a node of the store, and a call there is one that its view has; a refusal is not want of memory, which no
+-- word tells
 abbrev pub IsEnd : Stored → Result End Refusal → Type 0
 IsEnd store (Ok (end.View n)) = n < length store.nodes
-IsEnd store (Ok (end.Call n call)) = n < length store.nodes
-IsEnd store (Ok (end.With n word other)) = (n < length store.nodes) × (other < length store.nodes)
+IsEnd store (Ok (end.Call n call)) = (n < length store.nodes) × (fits (shape_at store.world (view_in store n)) call ≡ true)
+IsEnd store (Ok (end.With n word other)) = (n < length store.nodes) × (other < length store.nodes) × (fits_with (shape_at store.world (view_in store n)) word (shape_at store.world (view_in store other)) ≡ true)
 IsEnd store (Err refusal) = refusal ≢ NoMemory
 
 -- the node at an end

@@ -1,19 +1,21 @@
 //! The calls on views.
-ghost use Rattle.std.specs.Prelude.{◌≡◌, ◌<◌, ◌^◌, ◌-◌, length};
+ghost use Rattle.std.specs.Prelude.{◌≡◌, ◌<◌, ◌^◌, ◌-◌, true, length};
 ghost use Rattle.base_store.specs.Stored.{view_in};
 ghost use Rattle.session.specs.Called.{called, called_with};
 ghost use Rattle.session.specs.Coming.{Came};
 ghost use Rattle.session.specs.Replying.{Tells};
+ghost use Rattle.view_steps.specs.Calls as spec;
 ghost use Rattle.view_steps.specs.Limits.{ChangesUpTo};
+ghost use Rattle.view_steps.specs.Views.{shape_at};
 
 use crate::faults::ExecFault;
-use crate::replies::{Reply, refuse, say, say_answer};
+use crate::replies::{Reply, refuse, say_answer};
 use base_store::{AnyRef, Store};
 use elem::{Sink, Steps};
 use std::sync::ledger::Ledger;
-use view_steps::{Answer, Call, OnOther, Refusal, fits, fits_with};
+use view_steps::{Answer, Call, OnOther, Refusal};
 
-/// Executes a call on the view of a node, where its views have it.
+/// Executes a call that the view of a node has.
 pub fn call_on<S: Sink, L: Ledger>(
     store: &mut Store,
     n: AnyRef,
@@ -23,17 +25,15 @@ pub fn call_on<S: Sink, L: Ledger>(
     steps: &mut Steps<L>,
 ) -> Result<(), ExecFault>
     requires node { n < length store.old.nodes }
+    requires fits { spec.fits (shape_at store.old.world (view_in store.old n)) call.now ≡ true }
     requires change { ChangesUpTo (2 ^ 63 - 1) store.old.world }
     ensures { Came result store.old store.new (λ state. called state (view_in store.old n) call.now) (S.taken out.old) (S.taken out.new) (S.faults out.old) (S.faults out.new) }
 {
-    if !fits(store.shape(n), call) {
-        return say(reply, out, b"?call");
-    }
     let answer = write_chain::call(store, n, call, steps);
     tell(answer, reply, out)
 }
 
-/// Executes a call on the view of a node with that of another, where their views have it.
+/// Executes a call that the view of a node has with that of another.
 pub fn call_with_on<S: Sink, L: Ledger>(
     store: &mut Store,
     n: AnyRef,
@@ -45,12 +45,10 @@ pub fn call_with_on<S: Sink, L: Ledger>(
 ) -> Result<(), ExecFault>
     requires node { n < length store.old.nodes }
     requires other { other < length store.old.nodes }
+    requires fits { spec.fits_with (shape_at store.old.world (view_in store.old n)) word (shape_at store.old.world (view_in store.old other)) ≡ true }
     requires change { ChangesUpTo (2 ^ 63 - 1) store.old.world }
     ensures { Came result store.old store.new (λ state. called_with state (view_in store.old n) word (view_in store.old other)) (S.taken out.old) (S.taken out.new) (S.faults out.old) (S.faults out.new) }
 {
-    if !fits_with(store.shape(n), word, store.shape(other)) {
-        return say(reply, out, b"?call");
-    }
     let answer = write_chain::call_with(store, n, word, other, steps);
     tell(answer, reply, out)
 }

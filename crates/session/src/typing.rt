@@ -1,14 +1,15 @@
 //! The typing of the words behind a name.
-ghost use Rattle.std.specs.Prelude.{◌≡◌, ◌≤◌, ℕ, List, length, IfOk};
+ghost use Rattle.std.specs.Prelude.{◌≡◌, ◌≤◌, ℕ, true, List, length, IfOk, IfSome};
 ghost use Rattle.std.specs.Option.{option_map, option_and_then};
 ghost use Rattle.std.specs.Result.{result_err};
 ghost use Rattle.base_store.specs.Stored.{Stored};
 ghost use Rattle.script_text.specs.Parts.{part_in};
 ghost use Rattle.session.specs.Environment.{NamesWithin, named};
-ghost use Rattle.session.specs.Following.{IsTyped, meant_in};
+ghost use Rattle.session.specs.Following.{HasCalls, IsTyped, meant_in};
 ghost use Rattle.session.specs.Parts.{parts_in, text_at};
 ghost use Rattle.session.specs.Arguments.{name_in, step_with};
 ghost use Rattle.session.specs.Typing as spec;
+ghost use Rattle.view_steps.specs.Calls.{fits};
 ghost use Rattle.view_steps.specs.Steps.{apply_form};
 ghost use Rattle.view_steps.specs.declared.calls.Call.TheVariants as call;
 ghost use Rattle.view_steps.specs.declared.shapes.Shape.{Shape as AnyShape};
@@ -133,7 +134,7 @@ fn type_step(on: Shape, a: &[u8], form: StepForm) -> Result<Typed, Fault>
     }
 }
 
-/// A call with its arguments, the first two of which are `a` and `b`.
+/// A call of a form that views of the shape have, with its arguments, the first two of which are `a` and `b`.
 fn type_call(
     store: &Store,
     names: &IndexMap<Word, AnyRef>,
@@ -142,7 +143,8 @@ fn type_call(
     b: &[u8],
     form: CallForm,
 ) -> Result<Typed, Fault>
-    requires { NamesWithin (length store.now.nodes) names.now.entries }
+    requires names { NamesWithin (length store.now.nodes) names.now.entries }
+    requires had { HasCalls on form }
     ensures meaning { (text : List ℕ) → meant_in store.now text result ≡ spec.call_with store.now.world (named store.now.nodes names.now.entries) on a.now b.now form }
     ensures typed { (text : List ℕ) → IfOk result (λ it. IsTyped store.now on text it) }
 {
@@ -184,7 +186,7 @@ fn type_other(
 
 fn a_call(call: Option<Call>) -> Result<Typed, Fault>
     ensures meaning { (s : Stored) (text : List ℕ) → meant_in s text result ≡ spec.a_call call }
-    ensures typed { (s : Stored) (on : AnyShape) (text : List ℕ) → IfOk result (λ it. IsTyped s on text it) }
+    ensures typed { (s : Stored) (on : AnyShape) (text : List ℕ) → IfSome call (λ it. fits on it ≡ true) → IfOk result (λ it. IsTyped s on text it) }
 {
     match call {
         Some(call) => Ok(Typed::Call(call)),

@@ -1,11 +1,15 @@
+use Rattle.std.proofs.Common.{refl}
 use Rattle.base_store.specs.Stored.{view_in}
-use Rattle.session.proofs.CallLemmas.{call_unfit, call_told}
+use Rattle.view_steps.specs.Answering.{answered}
+use Rattle.view_steps.specs.Memory.{adds_rows}
+use Rattle.session.specs.Called.{called}
+use Rattle.session.proofs.CallLemmas.{came_told}
 use Rattle.session.proofs.calling.call_on.Goals as goal
-
-pub returns-then-not-fits : goal.returns-then-not-fits
-returns-then-not-fits g c = call_unfit c.args.store.now (view_in c.args.store.now c.args.n) c.shape.result c.shape.ensures c.args.call.now c.if-not-fits.ensures c.say.ensures
 
 pub returns : goal.returns
 returns g c =
-    call_told c.args.store.now (view_in c.args.store.now c.args.n) c.shape.result c.shape.ensures c.args.call.now
-    c.call-answer.new.store c.call-answer.result c.if-not-fits.ensures c.call-answer.ensures.came c.call-answer.ensures.changes c.call-answer.ensures.memory c.tell.ensures
+    let s = c.args.store.now in
+    let view = view_in s c.args.n in
+    let done = answered s.world view c.args.call.now in
+    came_told c.call-answer.result s c.call-answer.new.store (λ state. called state view c.args.call.now) (adds_rows s.world done) done
+    c.call-answer.ensures.came c.call-answer.ensures.changes (λ names. refl) c.call-answer.ensures.memory c.tell.ensures

@@ -3,10 +3,10 @@ use Rattle.script_text.specs.Parts.{part_in}
 use Rattle.session.specs.declared.typing.Typed.{Typed}
 use Rattle.session.specs.declared.typing.Typed.TheVariants as typed
 use Rattle.session.specs.Environment.{named}
-use Rattle.session.specs.Parts.{parts_in}
+use Rattle.session.specs.Parts.{parts_in, text_at}
 use Rattle.session.specs.Typing.{calls, calls_with, may_call, typed_word}
 use Rattle.base_store.specs.Stored.{view_in}
-use Rattle.session.proofs.FollowLemmas.{at_end, at_fault, at_refused, at_step, names_in}
+use Rattle.session.proofs.FollowLemmas.{at_end, at_fault, at_refused, at_step, end_call, end_with, names_in}
 use Rattle.session.proofs.TextLemmas.{text_short}
 use Rattle.session.proofs.following.follow.Goals as goal
 
@@ -46,6 +46,10 @@ returns-in-Err-clause-led c =
     })
     c.in-Step.form c.in-Step.field-1 (c.in-Ok.is ∙ ap (λ (x : Typed). Ok x) c.in-Step.is) c.take_step.new.store c.argument.result.now c.in-Err.refusal c.argument.ensures c.in-Err.ensures).led
 
+pub returns-in-Call-clause-end : goal.returns-in-Call-clause-end
+returns-in-Call-clause-end c =
+    end_call c.loop-rest.store c.loop-rest.node c.shape.result (text_at (part_in c.args.line.now c.part-item.result).args 0) c.type_word-typed.result c.loop-rest.invariant.stands c.shape.ensures c.type_word-typed.ensures.typed c.in-Call.call (c.in-Ok.is ∙ ap (λ (x : Typed). Ok x) c.in-Call.is)
+
 pub returns-in-Call-clause-led : goal.returns-in-Call-clause-led
 returns-in-Call-clause-led c =
     at_end c.args.names.now.entries c.args.purpose c.args.store.now c.loop-rest.store c.args.head c.loop-rest.node (parts_in c.args.line.now c.args.parts.now) c.args.line.now c.loop-rest.rest.now c.part-item.result c.shape.result c.type_word-typed.result
@@ -60,6 +64,10 @@ returns-in-Call-clause-led c =
       typed = c.type_word-typed.ensures.typed;
     })
     (typed.Call c.in-Call.call) (calls c.in-Call.call) (c.in-Ok.is ∙ ap (λ (x : Typed). Ok x) c.in-Call.is) refl
+
+pub returns-in-With-clause-end : goal.returns-in-With-clause-end
+returns-in-With-clause-end c =
+    end_with c.loop-rest.store c.loop-rest.node c.shape.result (text_at (part_in c.args.line.now c.part-item.result).args 0) c.type_word-typed.result c.loop-rest.invariant.stands c.shape.ensures c.type_word-typed.ensures.typed c.in-With.word c.in-With.other (c.in-Ok.is ∙ ap (λ (x : Typed). Ok x) c.in-With.is)
 
 pub returns-in-With-clause-led : goal.returns-in-With-clause-led
 returns-in-With-clause-led c =

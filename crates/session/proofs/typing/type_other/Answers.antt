@@ -1,5 +1,6 @@
 use Rattle.std.proofs.Common.{sym, ◌∙◌, ap}
 use Rattle.std.specs.Option.{option_copied}
+use Rattle.view_steps.specs.Calls.{fits_with}
 use Rattle.session.specs.Arguments.{name_in}
 use Rattle.session.proofs.NameLemmas.{found_within}
 use Rattle.session.proofs.TypingLemmas.{name_bound, name_unbound}
@@ -19,7 +20,10 @@ returns-then-fits_with-clause-meaning c first =
     name_bound s.world s.nodes c.args.names.now.entries c.args.on c.args.word c.in-Some.name (name_in c.args.text.now) c.in-Some.ensures _ _ _ (sym c.get.ensures.value ∙ ap option_copied c.in-Some-get.is) c.if-fits_with.ensures c.shape.ensures
 
 pub returns-then-fits_with-clause-typed : goal.returns-then-fits_with-clause-typed
-returns-then-fits_with-clause-typed c first = found_within _ c.args.names.now.entries c.in-Some.name _ c.requires (sym c.get.ensures.value ∙ ap option_copied c.in-Some-get.is)
+returns-then-fits_with-clause-typed c first = (
+  found_within _ c.args.names.now.entries c.in-Some.name _ c.requires (sym c.get.ensures.value ∙ ap option_copied c.in-Some-get.is),
+  sym (c.if-fits_with.ensures ∙ ap (fits_with c.args.on c.args.word) c.shape.ensures),
+)
 
 pub returns-else-fits_with-clause-meaning : goal.returns-else-fits_with-clause-meaning
 returns-else-fits_with-clause-meaning c first =

@@ -1,6 +1,8 @@
 use Rattle.std.proofs.Common.{ℕ, List, length, Some, IfOk, true, false, sym, ◌∙◌, ap, subst, arith}
 use Rattle.script_text.specs.Parts.{part_in}
+use Rattle.view_steps.specs.declared.calls.CallForm.{CallForm}
 use Rattle.view_steps.specs.declared.words.Action.{Action}
+use Rattle.view_steps.specs.declared.words.Action.TheVariants as action
 use Rattle.view_steps.specs.Shapes.{sort_of}
 use Rattle.view_steps.specs.Steps.{apply_form}
 use Rattle.view_steps.specs.Words.{signature}
@@ -9,6 +11,7 @@ use Rattle.session.specs.Environment.{named}
 use Rattle.session.specs.Following.{IsTyped, meant_in}
 use Rattle.session.specs.Parts.{text_at}
 use Rattle.session.specs.Typing.{a_step, call_with}
+use Rattle.view_steps.proofs.WordLemmas.{calls_fit}
 use Rattle.session.proofs.TextLemmas.{call_typed, none_typed, step_typed, text_short}
 use Rattle.session.proofs.typing.type_word.Goals as goal
 use Rattle.session.proofs.typing.type_word.Goals.{in_default-via-in-Some-Call+else-may_call, in_default-via-in_default}
@@ -26,6 +29,12 @@ returns-in-Some-Step-clause-meaning c =
 
 pub returns-in-Some-Step-clause-typed : goal.returns-in-Some-Step-clause-typed
 returns-in-Some-Step-clause-typed c = subst (λ (a : List ℕ). IfOk c.type_step.result (λ it. IsTyped c.args.store.now c.args.on a it)) c.argument-a.ensures (c.type_step.ensures.typed c.args.store.now)
+
+-- each call that a word gives is one that views of the shape have
+pub type_call-requires-clause-had : goal.type_call-requires-clause-had
+type_call-requires-clause-had c it e =
+    let found = c.signature.ensures ∙ ap (λ sort. signature sort c.bytes.result.now c.args.part.now.count) c.sort_of.ensures ∙ ap (λ (word : List ℕ). signature (sort_of c.args.on) word c.args.part.now.count) c.bytes.ensures.value in
+    calls_fit c.args.on c.args.part.now.word c.args.part.now.count it (sym found ∙ c.in-Some-Call.is ∙ ap (λ (x : Action). Some x) c.in-Some-Call.field-0-is ∙ ap (λ (form : CallForm). Some (action.Call form)) (sym e))
 
 pub returns-in-Some-Call-clause-meaning : goal.returns-in-Some-Call-clause-meaning
 returns-in-Some-Call-clause-meaning c =
