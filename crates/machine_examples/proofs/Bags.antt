@@ -155,8 +155,8 @@ bags_as_arguments : Runs (
 unfolding literally
 bags_as_arguments = refl
 
--- the worked row of counts with 5 in place of the greatest count
-row_14_small : Runs (
+-- a count of 5, where it could be the greatest one
+many_of_an_element : Runs (
     ("new b LinkedHashMultiset", "ok") ∷
     ("b.add(x, 5)", "0") ∷
     ("b.add(y)", "true") ∷
@@ -168,4 +168,4 @@ row_14_small : Runs (
     ("b.setCount(y, 3)", "1") ∷
     ("b.elementSet.add(z)", "UnsupportedOperationException") ∷ [])
 unfolding literally
-row_14_small = refl
+many_of_an_element = refl

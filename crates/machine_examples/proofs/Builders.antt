@@ -3,22 +3,6 @@ use Rattle.std.specs.Prelude.{[], ◌∷◌}
 use Rattle.std.proofs.Common.{refl}
 use Rattle.machine_examples.specs.Scripts.{Runs, literally}
 
-row_24 : Runs (
-    ("new k ImmutableMapBuilder", "ok") ∷
-    ("k.put(a, 1)", "ok") ∷
-    ("k.put(a, 2)", "ok") ∷
-    ("let m = k.buildOrThrow", "IllegalArgumentException") ∷
-    ("let m = k.buildKeepingLast", "ok") ∷
-    ("m", "{a=2}") ∷
-    ("m.put(b, 1)", "UnsupportedOperationException") ∷
-    ("new q ImmutableRangeSetBuilder", "ok") ∷
-    ("q.add([1..3])", "ok") ∷
-    ("q.add([4..4))", "IllegalArgumentException") ∷
-    ("q.add([2..5])", "ok") ∷
-    ("let r = q.build", "IllegalArgumentException") ∷ [])
-unfolding literally
-row_24 = refl
-
 built_range_sets_are_joined : Runs (
     ("new q ImmutableRangeSetBuilder", "ok") ∷
     ("q.add([5..7])", "ok") ∷

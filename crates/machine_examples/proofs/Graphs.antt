@@ -3,24 +3,7 @@ use Rattle.std.specs.Prelude.{[], ◌∷◌}
 use Rattle.std.proofs.Common.{refl}
 use Rattle.machine_examples.specs.Scripts.{Runs, literally}
 
-row_16 : Runs (
-    ("new g DirectedValueGraph", "ok") ∷
-    ("g.putEdgeValue(a, b, 5)", "null") ∷
-    ("let s = g.successors(a)", "ok") ∷
-    ("s", "[b]") ∷
-    ("g.transpose.successors(b)", "[a]") ∷
-    ("g.edges", "[<a -> b>]") ∷
-    ("g.removeNode(a)", "true") ∷
-    ("s", "IllegalStateException") ∷
-    ("g.addNode(a)", "true") ∷
-    ("s", "[]") ∷
-    ("g.successors(z)", "IllegalArgumentException") ∷
-    ("g.putEdgeValue(b, b, 1)", "IllegalArgumentException") ∷
-    ("g", "nodes: [b, a], edges: {}") ∷ [])
-unfolding literally
-row_16 = refl
-
-row_9a : Runs (
+an_edge_with_a_new_value : Runs (
     ("new g UndirectedValueGraph", "ok") ∷
     ("g.putEdgeValue(a, b, 1)", "null") ∷
     ("g.edges", "[[a, b]]") ∷
@@ -30,14 +13,14 @@ row_9a : Runs (
     ("g.addNode(c)", "true") ∷
     ("g.addNode(c)", "false") ∷ [])
 unfolding literally
-row_9a = refl
+an_edge_with_a_new_value = refl
 
-memory_4_graph : Runs (
+the_edge_of_an_undirected_graph : Runs (
     ("new g UndirectedValueGraph", "ok") ∷
     ("g.putEdgeValue(a, b, 1)", "null") ∷
     ("g.edges", "[[a, b]]") ∷ [])
 unfolding literally
-memory_4_graph = refl
+the_edge_of_an_undirected_graph = refl
 
 an_undirected_edge_put_the_other_way : Runs (
     ("new g UndirectedValueGraph", "ok") ∷

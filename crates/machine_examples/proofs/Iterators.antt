@@ -150,14 +150,14 @@ has_next_after_a_structural_change : Runs (
 unfolding literally
 has_next_after_a_structural_change = refl
 
-it_short : Runs (
+one_item : Runs (
     ("new l ArrayList", "ok") ∷
     ("l.add(b)", "true") ∷
     ("it i = l", "ok") ∷
     ("i.next", "b") ∷
     ("i.hasNext", "false") ∷ [])
 unfolding literally
-it_short = refl
+one_item = refl
 
 remove_after_remove : Runs (
     ("new l ArrayList", "ok") ∷
@@ -178,7 +178,7 @@ remove_after_remove : Runs (
 unfolding literally
 remove_after_remove = refl
 
-row_R15d_on_one_base : Runs (
+a_size_that_is_as_before : Runs (
     ("new s LinkedHashSet", "ok") ∷
     ("s.add(1)", "true") ∷
     ("it i = s.filter(odd)", "ok") ∷
@@ -187,7 +187,7 @@ row_R15d_on_one_base : Runs (
     ("s.size", "1") ∷
     ("i.hasNext", "ConcurrentModificationException") ∷ [])
 unfolding literally
-row_R15d_on_one_base = refl
+a_size_that_is_as_before = refl
 
 the_order_of_refusals_of_an_iterator : Runs (
     ("new l ArrayList", "ok") ∷

@@ -20,9 +20,6 @@ mod RandomPaths
 mod RandomRanges
 mod Ranges
 mod Replacing
-mod Rows1
-mod Rows2
-mod Rows3
 mod Sets
 mod Sublists
 mod Tables
@@ -31,3 +28,6 @@ mod Words2
 mod Words3
 mod Words4
 mod Words5
+mod Worked1
+mod Worked2
+mod Worked3

@@ -3,44 +3,7 @@ use Rattle.std.specs.Prelude.{[], ◌∷◌}
 use Rattle.std.proofs.Common.{refl}
 use Rattle.machine_examples.specs.Scripts.{Runs, literally}
 
-row_7 : Runs (
-    ("new r TreeRangeSet", "ok") ∷
-    ("r.add([1..3])", "ok") ∷
-    ("r.add([4..6])", "ok") ∷
-    ("r", "[[1..3], [4..6]]") ∷
-    ("r.add((3..4))", "ok") ∷
-    ("r", "[[1..6]]") ∷ [])
-unfolding literally
-row_7 = refl
-
-row_8 : Runs (
-    ("new r TreeRangeSet", "ok") ∷
-    ("r.add([1..5])", "ok") ∷
-    ("let c = r.complement", "ok") ∷
-    ("c.add([3..3])", "ok") ∷
-    ("r", "[[1..3), (3..5]]") ∷
-    ("c", "[(-∞..1), [3..3], (5..+∞)]") ∷
-    ("c.remove([9..+∞))", "ok") ∷
-    ("r", "[[1..3), (3..5], [9..+∞)]") ∷ [])
-unfolding literally
-row_8 = refl
-
-row_9 : Runs (
-    ("new r TreeRangeSet", "ok") ∷
-    ("r.add([1..3])", "ok") ∷
-    ("let s = r.subRangeSet([2..4])", "ok") ∷
-    ("s", "[[2..3]]") ∷
-    ("s.add([4..6])", "IllegalArgumentException") ∷
-    ("s.add([3..3))", "ok") ∷
-    ("r", "[[1..3]]") ∷
-    ("s.add((3..4])", "ok") ∷
-    ("r", "[[1..4]]") ∷
-    ("s.clear", "ok") ∷
-    ("r", "[[1..2)]") ∷ [])
-unfolding literally
-row_9 = refl
-
-row_7a : Runs (
+a_complement_through_a_window : Runs (
     ("new r TreeRangeSet", "ok") ∷
     ("let c = r.complement.subRangeSet([0..10])", "ok") ∷
     ("c", "[[0..10]]") ∷
@@ -52,9 +15,9 @@ row_7a : Runs (
     ("r", "[(2..3]]") ∷
     ("r.span", "(2..3]") ∷ [])
 unfolding literally
-row_7a = refl
+a_complement_through_a_window = refl
 
-memory_4 : Runs (
+a_range_set_as_an_argument : Runs (
     ("new r TreeRangeSet", "ok") ∷
     ("r.add([1..2])", "ok") ∷
     ("new s TreeRangeSet", "ok") ∷
@@ -63,41 +26,25 @@ memory_4 : Runs (
     ("s.removeAll(r)", "ok") ∷
     ("s", "[]") ∷ [])
 unfolding literally
-memory_4 = refl
+a_range_set_as_an_argument = refl
 
-row_16a : Runs (
+ranges_at_the_ends_of_the_numbers : Runs (
     ("new r TreeRangeSet", "ok") ∷
     ("r.add([9223372036854775807..+∞))", "ok") ∷
     ("r.complement", "[(-∞..9223372036854775807)]") ∷
     ("r.add([-9223372036854775808..-9223372036854775808])", "ok") ∷
     ("r.complement", "[(-∞..-9223372036854775808), (-9223372036854775808..9223372036854775807)]") ∷ [])
 unfolding literally
-row_16a = refl
+ranges_at_the_ends_of_the_numbers = refl
 
-load_5_7 : Runs (
+a_complement_filled_in_two_places : Runs (
     ("new r TreeRangeSet", "ok") ∷
     ("let c = r.complement", "ok") ∷
     ("c.add([474..476))", "ok") ∷
     ("r.add([334..343))", "ok") ∷
     ("r", "[[334..343)]") ∷ [])
 unfolding literally
-load_5_7 = refl
-
-row_22 : Runs (
-    ("new m TreeRangeMap", "ok") ∷
-    ("m.put([1..5], a)", "ok") ∷
-    ("m.put([4..8), b)", "ok") ∷
-    ("m", "{[1..4)=a, [4..8)=b}") ∷
-    ("m.get(4)", "b") ∷
-    ("let s = m.subRangeMap([2..5])", "ok") ∷
-    ("s", "{[2..4)=a, [4..5]=b}") ∷
-    ("s.put([5..6], c)", "IllegalArgumentException") ∷
-    ("s.remove([3..4])", "ok") ∷
-    ("m", "{[1..3)=a, (4..8)=b}") ∷
-    ("s.putCoalescing([3..3], a)", "ok") ∷
-    ("m", "{[1..2)=a, [2..3]=a, (4..8)=b}") ∷ [])
-unfolding literally
-row_22 = refl
+a_complement_filled_in_two_places = refl
 
 touching_ranges_join : Runs (
     ("new r TreeRangeSet", "ok") ∷

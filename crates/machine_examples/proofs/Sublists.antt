@@ -221,7 +221,7 @@ reverse_of_sub_and_sub_of_reverse : Runs (
 unfolding literally
 reverse_of_sub_and_sub_of_reverse = refl
 
-row_5_on_a_list : Runs (
+an_iterator_over_equal_items : Runs (
     ("new l ArrayList", "ok") ∷
     ("l.add(b)", "true") ∷
     ("l.add(a)", "true") ∷
@@ -233,7 +233,7 @@ row_5_on_a_list : Runs (
     ("i.next", "NoSuchElementException") ∷
     ("i.hasNext", "false") ∷ [])
 unfolding literally
-row_5_on_a_list = refl
+an_iterator_over_equal_items = refl
 
 set_through_a_sublist_is_not_structural : Runs (
     ("new l ArrayList", "ok") ∷

@@ -4,7 +4,7 @@ use Rattle.std.proofs.Common.{refl}
 use Rattle.machine_examples.specs.Scripts.{Runs, literally}
 
 -- a realistic index: filtered groups, a live union of two value sets, and an immutable copy of it
-row_18 : Runs (
+an_index_of_words : Runs (
     ("new d LinkedHashMultimap", "ok") ∷
     ("d.put(apple, 1)", "true") ∷
     ("d.put(ant, 1)", "true") ∷
@@ -25,19 +25,19 @@ row_18 : Runs (
     ("d", "{ant=[1], bee=[2, 3]}") ∷
     ("c.add(9)", "UnsupportedOperationException") ∷ [])
 unfolding literally
-row_18 = refl
+an_index_of_words = refl
 
 -- the script of the fault tests, run without a fault
-row_19 : Runs (
+a_look_up : Runs (
     ("new m LinkedHashMap", "ok") ∷
     ("m.put(a, 1)", "null") ∷
     ("m", "{a=1}") ∷
     ("m.get(a)", "1") ∷ [])
 unfolding literally
-row_19 = refl
+a_look_up = refl
 
 -- windows of a sorted set: adding outside is refused, a window in a window keeps its ends, clear empties the window alone
-row_21 : Runs (
+windows_of_a_sorted_set : Runs (
     ("new s TreeSet", "ok") ∷
     ("s.add(5)", "true") ∷
     ("s.add(a)", "true") ∷
@@ -53,10 +53,10 @@ row_21 : Runs (
     ("s", "[1]") ∷
     ("w.first", "NoSuchElementException") ∷ [])
 unfolding literally
-row_21 = refl
+windows_of_a_sorted_set = refl
 
 -- a range map cuts overlaps away, and its window puts, removes and joins only what it shows
-row_22 : Runs (
+a_window_of_a_range_map : Runs (
     ("new m TreeRangeMap", "ok") ∷
     ("m.put([1..5], a)", "ok") ∷
     ("m.put([4..8), b)", "ok") ∷
@@ -70,10 +70,10 @@ row_22 : Runs (
     ("s.putCoalescing([3..3], a)", "ok") ∷
     ("m", "{[1..2)=a, [2..3]=a, (4..8)=b}") ∷ [])
 unfolding literally
-row_22 = refl
+a_window_of_a_range_map = refl
 
 -- replacing the values of a key overwrites in place on a linked list multimap, and goes last on a linked set multimap whose key keeps its place
-row_23 : Runs (
+replaced_values_of_a_key : Runs (
     ("new v ArrayList", "ok") ∷
     ("v.add(8)", "true") ∷
     ("v.add(9)", "true") ∷
@@ -94,10 +94,10 @@ row_23 : Runs (
     ("n.entries", "[b=1, a=8, a=9]") ∷
     ("n.keySet", "[a, b]") ∷ [])
 unfolding literally
-row_23 = refl
+replaced_values_of_a_key = refl
 
 -- builders: a key added twice, the build that keeps the last pair, an empty range and two overlapping ranges
-row_24 : Runs (
+builds_and_refusals : Runs (
     ("new k ImmutableMapBuilder", "ok") ∷
     ("k.put(a, 1)", "ok") ∷
     ("k.put(a, 2)", "ok") ∷
@@ -112,10 +112,10 @@ row_24 : Runs (
     ("q.add([2..5])", "ok") ∷
     ("let r = q.build", "IllegalArgumentException") ∷ [])
 unfolding literally
-row_24 = refl
+builds_and_refusals = refl
 
 -- a transformed list removes but does not add, and sums pass 32 bits without wrapping
-row_25 : Runs (
+a_transformed_list : Runs (
     ("new l ArrayList", "ok") ∷
     ("l.add(1)", "true") ∷
     ("l.add(a)", "true") ∷
@@ -127,10 +127,10 @@ row_25 : Runs (
     ("l.add(2147483647)", "true") ∷
     ("l.transform(plus(1))", "[a, 2147483648]") ∷ [])
 unfolding literally
-row_25 = refl
+a_transformed_list = refl
 
 -- set and multiset algebra: differences, intersections, unions and sums, and a sum that refuses adding
-row_26 : Runs (
+set_and_multiset_algebra : Runs (
     ("new s LinkedHashSet", "ok") ∷
     ("s.add(1)", "true") ∷
     ("s.add(2)", "true") ∷
@@ -153,10 +153,10 @@ row_26 : Runs (
     ("b.intersection(c)", "[a]") ∷
     ("b.sum(c).add(q)", "UnsupportedOperationException") ∷ [])
 unfolding literally
-row_26 = refl
+set_and_multiset_algebra = refl
 
 -- a sorted multimap, groups of an absent key, and a filter by key that refuses a pair of another key
-row_27 : Runs (
+a_sorted_multimap : Runs (
     ("new m TreeMultimap", "ok") ∷
     ("m.put(b, 2)", "true") ∷
     ("m.put(a, 9)", "true") ∷
@@ -170,10 +170,10 @@ row_27 : Runs (
     ("m.asMap.remove(z)", "null") ∷
     ("m.filterKeys(eq(a)).get(b).add(5)", "IllegalArgumentException") ∷ [])
 unfolding literally
-row_27 = refl
+a_sorted_multimap = refl
 
 -- a sorted table: rows, columns, cells, a column removed through the column keys, a filtered row
-row_28 : Runs (
+a_sorted_table : Runs (
     ("new t TreeBasedTable", "ok") ∷
     ("t.put(2, b, x)", "null") ∷
     ("t.put(1, b, y)", "null") ∷
@@ -185,10 +185,10 @@ row_28 : Runs (
     ("t", "{1={a=z}}") ∷
     ("t.row(1).filterKeys(lt(b)).values", "[z]") ∷ [])
 unfolding literally
-row_28 = refl
+a_sorted_table = refl
 
 -- a list that is its own argument when adding and removing many
-row_29 : Runs (
+a_list_as_its_own_argument : Runs (
     ("new l ArrayList", "ok") ∷
     ("l.add(1)", "true") ∷
     ("l.add(2)", "true") ∷
@@ -199,10 +199,10 @@ row_29 : Runs (
     ("l.removeAll(l)", "false") ∷
     ("l.get(0)", "IndexOutOfBoundsException") ∷ [])
 unfolding literally
-row_29 = refl
+a_list_as_its_own_argument = refl
 
 -- a set seen as a map of its members, that map seen as a multimap, and an immutable copy that equals the set
-row_30 : Runs (
+a_set_as_a_map : Runs (
     ("new s LinkedHashSet", "ok") ∷
     ("s.add(2)", "true") ∷
     ("s.add(1)", "true") ∷
@@ -215,10 +215,10 @@ row_30 : Runs (
     ("let c = s.immutable", "ok") ∷
     ("c.equals(s)", "true") ∷ [])
 unfolding literally
-row_30 = refl
+a_set_as_a_map = refl
 
 -- a list multimap grouped by key, removed through a filter and read through a transformation
-row_31 : Runs (
+a_list_multimap : Runs (
     ("new p LinkedArrayListMultimap", "ok") ∷
     ("p.put(a, 1)", "true") ∷
     ("p.put(b, 2)", "true") ∷
@@ -229,4 +229,4 @@ row_31 : Runs (
     ("p.transformValues(neg).get(b)", "[-2]") ∷
     ("p.transformValues(neg).put(c, 1)", "UnsupportedOperationException") ∷ [])
 unfolding literally
-row_31 = refl
+a_list_multimap = refl

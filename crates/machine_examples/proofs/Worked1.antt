@@ -4,7 +4,7 @@ use Rattle.std.proofs.Common.{refl}
 use Rattle.machine_examples.specs.Scripts.{Runs, literally}
 
 -- a linked map: put, replace, look up, remove through its key set
-row_02 : Runs (
+a_linked_map : Runs (
     ("new m LinkedHashMap", "ok") ∷
     ("m.put(a, 1)", "null") ∷
     ("m.put(a, 2)", "1") ∷
@@ -14,10 +14,10 @@ row_02 : Runs (
     ("m", "{}") ∷
     ("m.remove(a)", "null") ∷ [])
 unfolding literally
-row_02 = refl
+a_linked_map = refl
 
 -- the kept values of an absent key write through and come back to life
-row_03 : Runs (
+values_of_an_absent_key : Runs (
     ("new m LinkedHashMultimap", "ok") ∷
     ("let g = m.get(a)", "ok") ∷
     ("g.add(1)", "true") ∷
@@ -27,10 +27,10 @@ row_03 : Runs (
     ("g.add(2)", "true") ∷
     ("m", "{a=[2]}") ∷ [])
 unfolding literally
-row_03 = refl
+values_of_an_absent_key = refl
 
 -- a linked set multimap keeps its key order when a key loses its first pair
-row_04 : Runs (
+a_key_that_loses_its_first_pair : Runs (
     ("new m LinkedHashMultimap", "ok") ∷
     ("m.put(a, 1)", "true") ∷
     ("m.put(b, 1)", "true") ∷
@@ -39,10 +39,10 @@ row_04 : Runs (
     ("m.entries", "[b=1, a=2]") ∷
     ("m.keySet", "[a, b]") ∷ [])
 unfolding literally
-row_04 = refl
+a_key_that_loses_its_first_pair = refl
 
 -- a linked list multimap orders keys by their first pair, and an iterator over its keys goes pair by pair
-row_05 : Runs (
+keys_by_their_first_pairs : Runs (
     ("new m LinkedListMultimap", "ok") ∷
     ("m.put(a, 1)", "true") ∷
     ("m.put(b, 1)", "true") ∷
@@ -58,10 +58,10 @@ row_05 : Runs (
     ("i.next", "b") ∷
     ("i.next", "NoSuchElementException") ∷ [])
 unfolding literally
-row_05 = refl
+keys_by_their_first_pairs = refl
 
 -- a bimap refuses a value that is bound, and a forced put through the inverse takes the place of the old pair
-row_06 : Runs (
+a_pair_forced_through_the_inverse : Runs (
     ("new h HashBiMap", "ok") ∷
     ("h.put(a, 1)", "null") ∷
     ("h.put(b, 1)", "IllegalArgumentException") ∷
@@ -69,10 +69,10 @@ row_06 : Runs (
     ("h", "{b=1}") ∷
     ("h.inverse", "{1=b}") ∷ [])
 unfolding literally
-row_06 = refl
+a_pair_forced_through_the_inverse = refl
 
 -- two ranges of whole numbers stay apart until the open gap between them is added
-row_07 : Runs (
+ranges_with_a_gap_between : Runs (
     ("new r TreeRangeSet", "ok") ∷
     ("r.add([1..3])", "ok") ∷
     ("r.add([4..6])", "ok") ∷
@@ -80,10 +80,10 @@ row_07 : Runs (
     ("r.add((3..4))", "ok") ∷
     ("r", "[[1..6]]") ∷ [])
 unfolding literally
-row_07 = refl
+ranges_with_a_gap_between = refl
 
 -- a complement is live, and writing through it is the opposite write below
-row_08 : Runs (
+a_live_complement : Runs (
     ("new r TreeRangeSet", "ok") ∷
     ("r.add([1..5])", "ok") ∷
     ("let c = r.complement", "ok") ∷
@@ -93,10 +93,10 @@ row_08 : Runs (
     ("c.remove([9..+∞))", "ok") ∷
     ("r", "[[1..3), (3..5], [9..+∞)]") ∷ [])
 unfolding literally
-row_08 = refl
+a_live_complement = refl
 
 -- a window of a range set refuses a range that it does not enclose, and clears its own part alone
-row_09 : Runs (
+a_window_of_a_range_set : Runs (
     ("new r TreeRangeSet", "ok") ∷
     ("r.add([1..3])", "ok") ∷
     ("let s = r.subRangeSet([2..4])", "ok") ∷
@@ -110,10 +110,10 @@ row_09 : Runs (
     ("s.clear", "ok") ∷
     ("r", "[[1..2)]") ∷ [])
 unfolding literally
-row_09 = refl
+a_window_of_a_range_set = refl
 
 -- a map filtered by its values: a put replaces the hidden entry in place, a failing value is refused, clear drops the shown part alone
-row_10 : Runs (
+a_map_filtered_by_its_values : Runs (
     ("new m LinkedHashMap", "ok") ∷
     ("m.put(a, 1)", "null") ∷
     ("m.put(b, 2)", "null") ∷
@@ -125,10 +125,10 @@ row_10 : Runs (
     ("f.clear", "ok") ∷
     ("m", "{d=7}") ∷ [])
 unfolding literally
-row_10 = refl
+a_map_filtered_by_its_values = refl
 
 -- replacing a value leaves an iterator fresh, a new key makes it stale
-row_11 : Runs (
+replacing_leaves_an_iterator_fresh : Runs (
     ("new m LinkedHashMap", "ok") ∷
     ("m.put(a, 1)", "null") ∷
     ("m.put(b, 2)", "null") ∷
@@ -140,10 +140,10 @@ row_11 : Runs (
     ("m.put(c, 1)", "null") ∷
     ("i.next", "ConcurrentModificationException") ∷ [])
 unfolding literally
-row_11 = refl
+replacing_leaves_an_iterator_fresh = refl
 
 -- an iterator's own removal keeps it fresh and makes every other iterator stale
-row_12 : Runs (
+an_iterator_removes : Runs (
     ("new s LinkedHashSet", "ok") ∷
     ("s.add(1)", "true") ∷
     ("s.add(2)", "true") ∷
@@ -158,10 +158,10 @@ row_12 : Runs (
     ("i.next", "2") ∷
     ("s", "[2]") ∷ [])
 unfolding literally
-row_12 = refl
+an_iterator_removes = refl
 
 -- a table written through its transposition, and a column that removes but whose iterator does not
-row_13 : Runs (
+a_table_through_its_transposition : Runs (
     ("new t LinkedTable", "ok") ∷
     ("t.put(r, c, 1)", "null") ∷
     ("t.transpose.row(c).put(r, 7)", "1") ∷
@@ -171,10 +171,10 @@ row_13 : Runs (
     ("t.column(c).remove(r)", "7") ∷
     ("t", "{}") ∷ [])
 unfolding literally
-row_13 = refl
+a_table_through_its_transposition = refl
 
 -- sublists go stale by a foreign write, follow their own writes, and partition a reversed list
-row_15 : Runs (
+stale_and_fresh_sublists : Runs (
     ("new l ArrayList", "ok") ∷
     ("l.add(1)", "true") ∷
     ("l.add(2)", "true") ∷
@@ -194,10 +194,10 @@ row_15 : Runs (
     ("l.sub(4, 9)", "IndexOutOfBoundsException") ∷
     ("l.partition(0)", "IllegalArgumentException") ∷ [])
 unfolding literally
-row_15 = refl
+stale_and_fresh_sublists = refl
 
 -- a set of a graph node is refused while the node is gone and valid again when it comes back
-row_16 : Runs (
+a_node_that_comes_back : Runs (
     ("new g DirectedValueGraph", "ok") ∷
     ("g.putEdgeValue(a, b, 5)", "null") ∷
     ("let s = g.successors(a)", "ok") ∷
@@ -212,10 +212,10 @@ row_16 : Runs (
     ("g.putEdgeValue(b, b, 1)", "IllegalArgumentException") ∷
     ("g", "nodes: [b, a], edges: {}") ∷ [])
 unfolding literally
-row_16 = refl
+a_node_that_comes_back = refl
 
 -- lines that are refused, the limits of a line, of a path and of a weight, and a last line without its newline
-row_17 : Runs (
+refused_lines_and_limits : Runs (
     ("foo bar", "?syntax") ∷
     ("q", "?name") ∷
     ("new m LinkedHashMap", "ok") ∷
@@ -237,4 +237,4 @@ row_17 : Runs (
     ("s.union(s)", "?limit") ∷
     ("m", "{}") ∷ [])
 unfolding literally
-row_17 = refl
+refused_lines_and_limits = refl

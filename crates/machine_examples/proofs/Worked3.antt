@@ -4,7 +4,7 @@ use Rattle.std.proofs.Common.{refl}
 use Rattle.machine_examples.specs.Scripts.{Runs, literally}
 
 -- putting a whole map into another, and removing a whole row of a table
-m1 : Runs (
+a_whole_map_and_a_whole_row : Runs (
     ("new m TreeMap", "ok") ∷
     ("m.put(b, 1)", "null") ∷
     ("new n LinkedHashMap", "ok") ∷
@@ -15,10 +15,10 @@ m1 : Runs (
     ("t.rowMap.remove(r)", "{c=1}") ∷
     ("t", "{}") ∷ [])
 unfolding literally
-m1 = refl
+a_whole_map_and_a_whole_row = refl
 
 -- a forced put drops the pair that had the value, and a put through the inverse adds a pair
-m2 : Runs (
+a_forced_put_and_a_put_through_the_inverse : Runs (
     ("new h HashBiMap", "ok") ∷
     ("h.put(a, 1)", "null") ∷
     ("h.forcePut(b, 1)", "null") ∷
@@ -26,10 +26,10 @@ m2 : Runs (
     ("h.inverse.put(2, c)", "null") ∷
     ("h", "{b=1, c=2}") ∷ [])
 unfolding literally
-m2 = refl
+a_forced_put_and_a_put_through_the_inverse = refl
 
 -- a sorted multiset as the argument of adding values to a key and of keeping only its members
-m3 : Runs (
+a_sorted_multiset_as_an_argument : Runs (
     ("new b TreeMultiset", "ok") ∷
     ("b.add(2)", "true") ∷
     ("b.add(1)", "true") ∷
@@ -40,10 +40,10 @@ m3 : Runs (
     ("m.get(k).retainAll(b)", "true") ∷
     ("m", "{k=[1]}") ∷ [])
 unfolding literally
-m3 = refl
+a_sorted_multiset_as_an_argument = refl
 
 -- a whole range set added to and removed from another, and the edge of an undirected graph
-m4 : Runs (
+a_whole_range_set_as_an_argument : Runs (
     ("new r TreeRangeSet", "ok") ∷
     ("r.add([1..2])", "ok") ∷
     ("new s TreeRangeSet", "ok") ∷
@@ -55,10 +55,10 @@ m4 : Runs (
     ("g.putEdgeValue(a, b, 1)", "null") ∷
     ("g.edges", "[[a, b]]") ∷ [])
 unfolding literally
-m4 = refl
+a_whole_range_set_as_an_argument = refl
 
 -- a kept key set that refuses adding and shows what the map has, and three refused lines
-r1a : Runs (
+a_kept_key_set : Runs (
     ("new m LinkedHashMap", "ok") ∷
     ("let k = m.keySet", "ok") ∷
     ("k.add(a)", "UnsupportedOperationException") ∷
@@ -70,10 +70,10 @@ r1a : Runs (
     ("m.first", "?call") ∷
     ("m m", "?syntax") ∷ [])
 unfolding literally
-r1a = refl
+a_kept_key_set = refl
 
 -- a transformation over a filter refuses adding, removes only what it shows, and an unmodifiable view refuses all
-r4a : Runs (
+a_transformation_over_a_filter : Runs (
     ("new m LinkedHashMap", "ok") ∷
     ("m.put(a, 1)", "null") ∷
     ("m.put(b, 2)", "null") ∷
@@ -85,10 +85,10 @@ r4a : Runs (
     ("m", "{b=2}") ∷
     ("m.unmodifiable.remove(b)", "UnsupportedOperationException") ∷ [])
 unfolding literally
-r4a = refl
+a_transformation_over_a_filter = refl
 
 -- a window over a complement writes the opposite below, inside the window alone
-r7a : Runs (
+a_window_over_a_complement : Runs (
     ("new r TreeRangeSet", "ok") ∷
     ("let c = r.complement.subRangeSet([0..10])", "ok") ∷
     ("c", "[[0..10]]") ∷
@@ -100,10 +100,10 @@ r7a : Runs (
     ("r", "[(2..3]]") ∷
     ("r.span", "(2..3]") ∷ [])
 unfolding literally
-r7a = refl
+a_window_over_a_complement = refl
 
 -- an iterator over the edges of an undirected graph: a new value leaves it fresh, a new node makes it stale
-r9a : Runs (
+an_iterator_over_edges : Runs (
     ("new g UndirectedValueGraph", "ok") ∷
     ("g.putEdgeValue(a, b, 1)", "null") ∷
     ("it i = g.edges", "ok") ∷
@@ -115,10 +115,10 @@ r9a : Runs (
     ("g.addNode(c)", "true") ∷
     ("i.hasNext", "ConcurrentModificationException") ∷ [])
 unfolding literally
-r9a = refl
+an_iterator_over_edges = refl
 
 -- a set removes the members of its own filter
-r15a : Runs (
+a_set_without_its_own_filter : Runs (
     ("new s LinkedHashSet", "ok") ∷
     ("s.add(1)", "true") ∷
     ("s.add(2)", "true") ∷
@@ -128,10 +128,10 @@ r15a : Runs (
     ("s", "[2]") ∷
     ("v", "[]") ∷ [])
 unfolding literally
-r15a = refl
+a_set_without_its_own_filter = refl
 
 -- the values of a key are replaced by a view of the same multimap, under another key and under the same one
-r15b : Runs (
+values_replaced_by_a_view_of_the_same_multimap : Runs (
     ("new m LinkedHashMultimap", "ok") ∷
     ("m.put(a, 1)", "true") ∷
     ("m.put(a, 2)", "true") ∷
@@ -141,10 +141,10 @@ r15b : Runs (
     ("m.replaceValues(a, g)", "[1, 2]") ∷
     ("m.entries", "[b=1, b=2, a=1, a=2]") ∷ [])
 unfolding literally
-r15b = refl
+values_replaced_by_a_view_of_the_same_multimap = refl
 
 -- a sublist on a sublist: a write through the upper one updates both, a write through the lower one makes the upper stale
-r15c : Runs (
+a_sublist_on_a_sublist : Runs (
     ("new l ArrayList", "ok") ∷
     ("l.add(1)", "true") ∷
     ("l.add(2)", "true") ∷
@@ -159,10 +159,10 @@ r15c : Runs (
     ("w", "ConcurrentModificationException") ∷
     ("l", "[1, 2, 3, 9, 8, 4]") ∷ [])
 unfolding literally
-r15c = refl
+a_sublist_on_a_sublist = refl
 
 -- an iterator over a union of a set with itself goes stale, also where the size is as before
-r15d : Runs (
+an_iterator_over_a_union_with_itself : Runs (
     ("new s LinkedHashSet", "ok") ∷
     ("s.add(1)", "true") ∷
     ("it i = s.union(s)", "ok") ∷
@@ -170,10 +170,10 @@ r15d : Runs (
     ("s.remove(2)", "true") ∷
     ("i.hasNext", "ConcurrentModificationException") ∷ [])
 unfolding literally
-r15d = refl
+an_iterator_over_a_union_with_itself = refl
 
 -- whole numbers of 64 bits at their ends: wrapping, a literal too wide, an index too wide, a range at the greatest number
-r16a : Runs (
+numbers_at_their_ends : Runs (
     ("new l ArrayList", "ok") ∷
     ("l.add(9223372036854775807)", "true") ∷
     ("l.transform(plus(1))", "[-9223372036854775808]") ∷
@@ -183,10 +183,10 @@ r16a : Runs (
     ("r.add([9223372036854775807..+∞))", "ok") ∷
     ("r.complement", "[(-∞..9223372036854775807)]") ∷ [])
 unfolding literally
-r16a = refl
+numbers_at_their_ends = refl
 
 -- a set in reverse order, whose windows are read by that order
-r17a : Runs (
+a_set_in_reverse_order : Runs (
     ("new s TreeSetReverse", "ok") ∷
     ("s.add(1)", "true") ∷
     ("s.add(2)", "true") ∷
@@ -202,10 +202,10 @@ r17a : Runs (
     ("s.within([2..2])", "[2]") ∷
     ("s.descending", "[1, 2, 3]") ∷ [])
 unfolding literally
-r17a = refl
+a_set_in_reverse_order = refl
 
 -- a map whose keys go by the length of their text
-r17b : Runs (
+keys_by_the_length_of_their_text : Runs (
     ("new q TreeMapLength", "ok") ∷
     ("q.put(bb, 1)", "null") ∷
     ("q.put(c, 2)", "null") ∷
@@ -213,4 +213,4 @@ r17b : Runs (
     ("q", "{c=2, 10=3, bb=1}") ∷
     ("q.firstKey", "c") ∷ [])
 unfolding literally
-r17b = refl
+keys_by_the_length_of_their_text = refl
