@@ -5,11 +5,18 @@ use Rattle.std.proofs.lemmas.Bool.Decides.{nat_tests}
 use Rattle.std.proofs.lemmas.List.Sums.{sum_by_push}
 use Rattle.elem.specs.declared.elements.Elem.{Elem}
 use Rattle.elem.specs.declared.build_kinds.BuildKind.{BuildKind}
+use Rattle.elem.specs.declared.build_kinds.BuildKind.TheVariants as kind
+use Rattle.elem.specs.declared.spans.Span.{Span}
+use Rattle.elem.specs.CutLaws.{cut_before_strict, same_cut-Decides}
+use Rattle.elem.specs.Cuts.{same_cut}
 use Rattle.elem.specs.Elements.{same}
 use Rattle.elem.specs.ElementLaws.{same-Decides}
+use Rattle.elem.specs.OrderLaws.{natural_before_strict}
+use Rattle.elem.specs.Spans.{IsWhole}
 use Rattle.build_base.specs.declared.row.Row.{Row}
-use Rattle.build_base.specs.declared.row.Row.TheVariants.{Counted}
+use Rattle.build_base.specs.declared.row.Row.TheVariants.{Counted, Range, RangeValue}
 use Rattle.build_base.specs.Rows.{Fits}
+use Rattle.build_base.specs.Units.{IsFilledRow, has_length}
 use Rattle.build_base.specs.Built.{AllFit, most, count_in, count_of, refuses_item}
 
 pub fits_at : (k : BuildKind) (items : List Row) (i : ℕ) (d : Row) → AllFit k items → i < length items → Fits k (get_or items i d)
@@ -33,3 +40,20 @@ room_for items row h x n e = let t : nat_lt most (count_of items x + n) ≡ fals
 
 pub count_of-push : (items : List Row) (row : Row) (x : Elem) → count_of (items ++ row ∷ []) x ≡ count_of items x + count_in x row
 count_of-push items row x = sum_by_push (count_in x) items row
+
+whole_range : (k : BuildKind) (s : Span) → Fits k (Range s) → IsWhole s
+whole_range kind.RangeSet s f = f
+whole_range k s f = absurd f
+
+whole_entry : (k : BuildKind) (s : Span) (v : Elem) → Fits k (RangeValue s v) → IsWhole s
+whole_entry kind.RangeMap s v f = f
+whole_entry k s v f = absurd f
+
+filled : (s : Span) → IsWhole s → same_cut s.lo s.hi ≡ false → has_length s ≡ true
+filled s w e = (cut_before_strict natural_before_strict).exactly_one s.lo s.hi (λ q. (let t = (same_cut-Decides s.lo s.hi).1 q in cc)) ∙ w.in_order
+
+-- a range that is not refused is not empty
+pub filled_row : (k : BuildKind) (items : List Row) (row : Row) → Fits k row → refuses_item items row ≡ false → IsFilledRow row
+filled_row k items (Range s) f h = filled s (whole_range k s f) h
+filled_row k items (RangeValue s v) f h = filled s (whole_entry k s v f) h
+filled_row k items row f h = tt

@@ -4,3 +4,5 @@ pub mod BuiltLemmas
 pub mod WalkLemmas
 pub mod GroupLemmas
 pub mod GroupSteps
+pub mod MeetLemmas
+pub mod CoverLemmas

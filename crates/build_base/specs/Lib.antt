@@ -1,4 +1,5 @@
 pub mod Rows
 pub mod Kept
 pub mod Ranges
+pub mod Units
 pub mod Built

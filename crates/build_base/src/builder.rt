@@ -37,13 +37,15 @@ impl Model for Builder {
     ghost use Rattle.std.specs.HashMap as hash;
     ghost use Rattle.elem.specs.declared.elements.Elem.{Elem as Element};
     ghost use Rattle.elem.specs.Elements.{same};
+    ghost use Rattle.std.specs.List.{All};
+    ghost use Rattle.build_base.specs.Units.{IsFilledRow};
     ghost use Rattle.build_base.specs.Built.{Build, AllFit, count_of};
 
     ghost Value = { Build };
 
     ghost view = { λ b. record { kind = b.kind; items = b.items.items } };
 
-    ghost invariant = { λ b. AllFit b.kind b.items.items × ((x : Element) → count_at (hash.get same b.counts) x ≡ count_of b.items.items x) };
+    ghost invariant = { λ b. AllFit b.kind b.items.items × All IsFilledRow b.items.items × ((x : Element) → count_at (hash.get same b.counts) x ≡ count_of b.items.items x) };
 }
 
 impl Builder {

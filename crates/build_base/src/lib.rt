@@ -10,7 +10,7 @@ mod counted;
 mod finish;
 mod firsts;
 mod grouped;
-mod overlap;
+mod meets;
 mod part;
 mod ranges;
 mod row;
