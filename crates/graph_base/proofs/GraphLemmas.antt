@@ -11,6 +11,8 @@ use Rattle.elem.specs.ElementLaws.{same-Decides, same_equiv}
 use Rattle.elem.specs.Keyed.{value_at, without, HasDistinctKeys}
 use Rattle.mm_base.specs.KeyedRows.{contains, with_key}
 use Rattle.mm_base.proofs.KeyedRowsLemmas.{contains_keys}
+use Rattle.elem.specs.Rows.{first_key, key_after}
+use Rattle.graph_base.specs.Nexts.{behind}
 use Rattle.graph_base.specs.declared.degrees.Degrees.{Degrees}
 use Rattle.graph_base.specs.Edges.{Edge, joins, joining, edge_joining, value_joining, with_edge, is_at, without_edges_at}
 use Rattle.graph_base.specs.Degrees.{out_of, into}
@@ -29,6 +31,15 @@ pub nth_key : {V : Type 0} (rows : List (Elem × V)) (i : ℕ) → slice_get (ke
 nth_key [] i = refl
 nth_key (row ∷ rows) zero = refl
 nth_key (row ∷ rows) (suc i) = nth_key rows i
+
+-- the key behind another stands behind it among the keys
+pub key_behind : {V : Type 0} (a : Elem) (rows : List (Elem × V)) → key_after (same a) rows ≡ behind a (keys_of rows)
+key_behind a [] = refl
+key_behind {V} a (row ∷ rows) = λ i. cond (same a row.0) (first rows i) (key_behind a rows i)
+  where
+    first : (rest : List (Elem × V)) → first_key rest ≡ slice_get (keys_of rest) 0
+    first [] = refl
+    first (r ∷ rest) = refl
 
 pub with_key_le : (k : Elem) (keys : List Elem) → length (with_key k keys) ≤ length keys + 1
 with_key_le k keys = by_case (contains k keys)

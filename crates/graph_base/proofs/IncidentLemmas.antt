@@ -30,7 +30,7 @@ abbrev key_of : Numbered → Elem
 key_of row = row.0
 
 module _ {X Y : Type 0} (f : X → Y) where
-  some_under : (o : Option X) (y : Y) → option_map f o ≡ Some y → (x : X) × (o ≡ Some x) × (f x ≡ y)
+  pub some_under : (o : Option X) (y : Y) → option_map f o ≡ Some y → (x : X) × (o ≡ Some x) × (f x ≡ y)
   some_under None y e = absurd (cc)
   some_under (Some x) y e = (x, refl, cc)
 

@@ -6,6 +6,8 @@ pub mod EdgeRowsSteps
 pub mod HalvesLemmas
 pub mod HeldEdges
 pub mod IncidentLemmas
+pub mod AtNode
+pub mod NextLemmas
 pub mod CountedLemmas
 pub mod NodesLemmas
 pub mod GraphSteps

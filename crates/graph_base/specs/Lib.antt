@@ -5,4 +5,5 @@ pub mod Ends
 pub mod Numbers
 pub mod EdgeRows
 pub mod Counted
+pub mod Nexts
 pub mod Faults

@@ -1,11 +1,12 @@
 ghost use Rattle.std.specs.Prelude.{◌≡◌, ℕ, ◌<◌, Option, Some, None, cond};
 ghost use Rattle.std.specs.HashMap.{spare};
 ghost use Rattle.std.specs.HashMap as hash;
+ghost use Rattle.elem.specs.Elements.{same};
 ghost use Rattle.elem.specs.Keyed.{IsPresent, with_value};
 ghost use Rattle.graph_base.specs.Ends.{Ends, same_ends, ends};
 ghost use Rattle.graph_base.specs.Numbers.{number};
 
-use elem::{Elem, natural_order};
+use elem::{Elem, natural_order, same};
 use linked_base::FreeLinkedMap;
 use mm_base::PairId;
 use std::collections::HashMap;
@@ -19,6 +20,17 @@ pub struct EdgeRow {
     pub first: PairId,
     pub second: PairId,
     pub place: usize,
+}
+
+/// The id of the half that an edge has at a node, which is one of its ends.
+pub fn half_at(a: &Elem, row: &EdgeRow) -> PairId
+    ensures { result ≡ cond (same a.now row.now.from) row.now.first row.now.second }
+{
+    if same(a, &row.from) {
+        row.first
+    } else {
+        row.second
+    }
 }
 
 /// Writes the value of the row of a number.

@@ -1,8 +1,10 @@
-ghost use Rattle.std.specs.Prelude.{◌≡◌, [], length, slice_get, Some, None, IfOk, OnOk, OnErr, OnSome, IfNone};
+ghost use Rattle.std.specs.Prelude.{◌≡◌, ℕ, ◌+◌, [], length, slice_get, Some, None, IfOk, OnOk, OnErr, OnSome, IfNone};
 ghost use Rattle.graph_base.specs.Edges.{joining, edge_joining, value_joining, with_edge, without_edge, incident};
 ghost use Rattle.graph_base.specs.Graphs.{AreApart};
 
-use crate::edge_row::{EdgeRow, find_number, number_of, take_number, write_number, write_value};
+use crate::edge_row::{
+    EdgeRow, find_number, half_at, number_of, take_number, write_number, write_value,
+};
 use crate::halves::{add_halves, drop_halves};
 use elem::{Elem, NoMemory};
 use linked_base::FreeLinkedMap;
@@ -90,6 +92,21 @@ impl EdgeRows {
         let half = self.halves.at(*a, i)?;
         let (_end, number) = self.halves.pair(half);
         let row = self.rows.probe(number).unwrap();
+        Some((row.from, row.to, row.value))
+    }
+
+    /// The edge after another of those at a node.
+    pub fn after_at(&self, a: &Elem, e: &(Elem, Elem, Elem)) -> Option<(Elem, Elem, Elem)>
+        requires { (k : ℕ) × (slice_get (incident a.now self.now.edges) k ≡ Some e.now) }
+        ensures { (k : ℕ) → slice_get (incident a.now self.now.edges) k ≡ Some e.now → result ≡ slice_get (incident a.now self.now.edges) (k + 1) }
+    {
+        let _len = self.rows.len();
+        let _halves = self.halves.len();
+        let number = find_number(&self.index, self.directed, &e.0, &e.1).unwrap();
+        let half = half_at(a, &self.rows.probe(number).unwrap());
+        let next = self.halves.after_in_key(half)?;
+        let (_end, other) = self.halves.pair(next);
+        let row = self.rows.probe(other).unwrap();
         Some((row.from, row.to, row.value))
     }
 

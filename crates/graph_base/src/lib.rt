@@ -10,6 +10,7 @@ mod edge_rows;
 mod faults;
 mod graph_edits;
 pub mod halves;
+mod next_nodes;
 #[cfg(test)]
 mod tests;
 mod value_graph_rows;

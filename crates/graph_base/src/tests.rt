@@ -93,6 +93,44 @@ fn asked<L: Ledger>(
     Ok((one, two, value, looped && g.directed() && !g.loops()))
 }
 
+/// The second node, the edge behind the first one at 2, the next node of 2 behind 3, and the first node before 2, where the
+/// edges are 1 to 2, 2 to 3 and 2 to 4.
+fn turned<L: Ledger>(
+    alloc: Global,
+    blank: Blank,
+) -> Result<
+    (
+        Option<Elem>,
+        Option<(Elem, Elem, Elem)>,
+        Option<Elem>,
+        Option<Elem>,
+    ),
+    GraphFault,
+>
+    requires name { blank.name ≡ L.name }
+    requires parts { blank.parts ≡ L.parts }
+    requires some { 0 < blank.parts }
+{
+    let mut steps = Steps::<L>::new(blank);
+    let Ok(mut g) = ValueGraphRows::new(alloc, true, false) else {
+        return Err(GraphFault::NoMemory);
+    };
+    put(&mut g, 1, 2, 10, &mut steps)?;
+    put(&mut g, 2, 3, 20, &mut steps)?;
+    put(&mut g, 2, 4, 30, &mut steps)?;
+    let Some(first) = g.first_node(&mut steps) else {
+        return Err(GraphFault::NoNode);
+    };
+    let second = g.node_after(first, &mut steps);
+    let Some(edge) = g.first_incident(Elem::Int(2), &mut steps) else {
+        return Err(GraphFault::NoNode);
+    };
+    let behind = g.incident_after(Elem::Int(2), edge, &mut steps);
+    let next = g.next_after(Elem::Int(2), Elem::Int(3), false, &mut steps);
+    let before = g.first_next(Elem::Int(2), true, &mut steps);
+    Ok((second, behind, next, before))
+}
+
 #[test]
 fn an_edge_is_put_once(rt: HostRuntime) -> Result<(), Fail> {
     let (former, len, degree, second) = undirected::<Brand>(rt.alloc(), Blank::new(1))
@@ -126,5 +164,17 @@ fn a_loop_is_refused(rt: HostRuntime) -> Result<(), Fail> {
     assert_eq!(rt; two, false);
     assert_eq!(rt; value, None);
     assert_eq!(rt; looped, true);
+    Ok(())
+}
+
+#[test]
+fn next_nodes_go_both_ways(rt: HostRuntime) -> Result<(), Fail> {
+    let (second, behind, next, before) = turned::<Brand>(rt.alloc(), Blank::new(1))
+        .ok()
+        .ok_or("fault")?;
+    assert_eq!(rt; second, Some(Elem::Int(2)));
+    assert_eq!(rt; behind, Some((Elem::Int(2), Elem::Int(3), Elem::Int(20))));
+    assert_eq!(rt; next, Some(Elem::Int(4)));
+    assert_eq!(rt; before, Some(Elem::Int(1)));
     Ok(())
 }

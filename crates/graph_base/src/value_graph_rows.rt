@@ -6,6 +6,8 @@ ghost use Rattle.graph_base.specs.Edges.{value_joining, with_edge, without_edge,
 ghost use Rattle.graph_base.specs.Faults.{RefusesPut};
 ghost use Rattle.graph_base.specs.Graphs.{empty, size, without_node, IsValid};
 
+mod walking;
+
 use crate::degrees::{Degrees, degree_by, put_node};
 use crate::edge_rows::EdgeRows;
 use crate::graph_edits::{drop_edge, drop_edges_at, is_refused, put_new_edge};

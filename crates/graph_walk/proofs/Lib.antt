@@ -10,3 +10,9 @@ mod VisitLemmas
 mod StackLemmas
 mod ReachLemmas
 mod ClosureLemmas
+mod StackedLemmas
+mod LinkLemmas
+mod FoundCycles
+mod CycleNodes
+mod LateLemmas
+mod CycleLemmas

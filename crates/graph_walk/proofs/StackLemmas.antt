@@ -49,7 +49,7 @@ module _ (nexts : Elem → List Elem) where
       by_case (inr n) (inl j) r = let s : cond (is_in y (e ++ x ∷ [])) 0 (1 + length (nexts y)) ≡ 0 = ap (λ b. cond b 0 (1 + length (nexts y))) j in omega arith
       by_case (inr n) (inr o) r = let s : cond (is_in y (e ++ x ∷ [])) 0 (1 + length (nexts y)) ≡ 1 + length (nexts y) = ap (λ b. cond b 0 (1 + length (nexts y))) o in let t : cond (is_in y e) 0 (1 + length (nexts y)) ≡ 1 + length (nexts y) = ap (λ b. cond b 0 (1 + length (nexts y))) n in omega arith
 
-  entering : (x : Elem) (e : List Elem) → is_in x e ≡ false → (nodes : List Elem) → is_in x nodes ≡ true → unentered nexts nodes (e ++ x ∷ []) + (1 + length (nexts x)) ≤ unentered nexts nodes e
+  pub entering : (x : Elem) (e : List Elem) → is_in x e ≡ false → (nodes : List Elem) → is_in x nodes ≡ true → unentered nexts nodes (e ++ x ∷ []) + (1 + length (nexts x)) ≤ unentered nexts nodes e
   entering x e new [] i = absurd (both_ways _ refl i)
   entering x e new (y ∷ ys) i = by_case (same x y) refl i (entering x e new ys)
     where

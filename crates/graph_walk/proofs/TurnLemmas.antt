@@ -25,6 +25,10 @@ pub left-first : (xs : List Elem) → left_at (slice_get xs 0) xs ≡ xs
 left-first [] = refl
 left-first (x ∷ xs) = ap (λ b. cond b (x ∷ xs) (from_on x xs)) (same_equiv.refl x)
 
+pub none_left : (o : Option Elem) (xs : List Elem) → ((x : Elem) → o ≡ Some x → ⊥) → left_at o xs ≡ []
+none_left None xs h = refl
+none_left (Some x) xs h = absurd (h x refl)
+
 apart_head : (x y : Elem) (ys : List Elem) → IsDistinct same (y ∷ ys) → is_in x ys ≡ true → same x y ≡ false
 unfolding IsDistinct
 apart_head x y ys d h = apart x ys (d.0) h

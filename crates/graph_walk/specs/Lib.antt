@@ -6,4 +6,6 @@ pub mod BreadthFirst
 pub mod DepthFirst
 pub mod Stacks
 pub mod Closures
+pub mod Cycles
+pub mod Late
 pub mod Faults

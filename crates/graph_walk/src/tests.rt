@@ -2,7 +2,7 @@
 ghost use Rattle.std.specs.Prelude.{◌≡◌, ◌<◌};
 
 use crate::two_lists::{Listed, make_listed};
-use crate::{ClosureFault, WalkFault, breadth_first, closure, depth_post, depth_pre};
+use crate::{ClosureFault, WalkFault, breadth_first, closure, depth_post, depth_pre, has_cycle};
 use elem::{Elem, NoMemory, Steps};
 use std::alloc::Global;
 use std::marker::Brand;
@@ -25,6 +25,17 @@ fn diamond(alloc: Global) -> Result<Listed, NoMemory> {
 fn line(alloc: Global) -> Result<Listed, NoMemory> {
     let nodes = [Elem::Int(1), Elem::Int(2), Elem::Int(3)];
     let edges = [(Elem::Int(1), Elem::Int(2)), (Elem::Int(2), Elem::Int(3))];
+    make_listed(alloc, &nodes, &edges, false)
+}
+
+/// The edges 1 to 2, 2 to 3 and 3 to 1, without directions.
+fn ring(alloc: Global) -> Result<Listed, NoMemory> {
+    let nodes = [Elem::Int(1), Elem::Int(2), Elem::Int(3)];
+    let edges = [
+        (Elem::Int(1), Elem::Int(2)),
+        (Elem::Int(2), Elem::Int(3)),
+        (Elem::Int(3), Elem::Int(1)),
+    ];
     make_listed(alloc, &nodes, &edges, false)
 }
 
@@ -82,6 +93,19 @@ fn joined_line<L: Ledger>(
     }
 }
 
+/// Whether the diamond, the line and the ring have a cycle.
+fn cycles<L: Ledger>(alloc: Global, blank: Blank) -> Result<(bool, bool, bool), NoMemory>
+    requires name { blank.name ≡ L.name }
+    requires parts { blank.parts ≡ L.parts }
+    requires some { 0 < blank.parts }
+{
+    let mut steps = Steps::<L>::new(blank);
+    let of_diamond = has_cycle(alloc, &diamond(alloc)?, &mut steps)?;
+    let of_line = has_cycle(alloc, &line(alloc)?, &mut steps)?;
+    let of_ring = has_cycle(alloc, &ring(alloc)?, &mut steps)?;
+    Ok((of_diamond, of_line, of_ring))
+}
+
 #[test]
 fn a_diamond_in_three_orders(rt: HostRuntime) -> Result<(), Fail> {
     let (breadth, pre, post) = from_one::<Brand>(rt.alloc(), Blank::new(1))
@@ -129,5 +153,16 @@ fn a_line_is_joined(rt: HostRuntime) -> Result<(), Fail> {
     assert_eq!(rt; edges.get(2).copied(), Some((Elem::Int(1), Elem::Int(3))));
     assert_eq!(rt; edges.last().copied(), Some((Elem::Int(3), Elem::Int(3))));
     assert_eq!(rt; refused, true);
+    Ok(())
+}
+
+#[test]
+fn a_ring_is_a_cycle(rt: HostRuntime) -> Result<(), Fail> {
+    let (of_diamond, of_line, of_ring) = cycles::<Brand>(rt.alloc(), Blank::new(1))
+        .ok()
+        .ok_or("fault")?;
+    assert_eq!(rt; of_diamond, false);
+    assert_eq!(rt; of_line, false);
+    assert_eq!(rt; of_ring, true);
     Ok(())
 }
