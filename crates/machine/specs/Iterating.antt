@@ -1,5 +1,5 @@
 -- The words of an iterator, which stand alone behind its name.
-use Rattle.std.specs.Prelude.{ℕ, nat_eq, Bool, List, [], ◌∷◌, length, Option, None, Some, Result, Ok, Err, codes, if◌then◌else◌}
+use Rattle.std.specs.Prelude.{ℕ, nat_eq, Bool, false, List, [], ◌∷◌, length, Option, None, Some, Result, Ok, Err, codes, if◌then◌else◌}
 use Rattle.std.specs.Cmp.Lexicographic.{pointwise}
 use Rattle.vocabulary.specs.declared.items.Item.{Item}
 use Rattle.vocabulary.specs.declared.lines.Fault.TheVariants as fault
@@ -38,12 +38,12 @@ told state (Ok truth) = says state (truth_text truth)
 -- the item that comes next, and the iterator behind it
 abbrev pub given : State → List ℕ → Iterator → Result (Item × Iterator) Refusal → Outcome
 given state name it (Err why) = refused_by state why
-given state name it (Ok found) = record { reply = Some (text_of_item state.bases it.view found.0); after = with_iterator state name found.1 }
+given state name it (Ok found) = record { reply = Some (text_of_item state.bases it.view found.0); after = with_iterator state name found.1; memory = false }
 
 -- the iterator after its own removal, which is a write through its view
 abbrev pub gone : State → List ℕ → Iterator → Result (Iterator × World) Refusal → Outcome
 gone state name it (Err why) = refused_by state why
-gone state name it (Ok done) = record { reply = Some (codes "ok"); after = with_iterator (written_through state it.view done.1) name done.0 }
+gone state name it (Ok done) = record { reply = Some (codes "ok"); after = with_iterator (written_through state it.view done.1) name done.0; memory = false }
 
 -- what an iterator does, which has this name
 abbrev pub iterated : State → List ℕ → Iterator → Option OnIterator → Outcome

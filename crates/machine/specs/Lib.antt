@@ -1,5 +1,6 @@
 pub mod Bases
 pub mod KeyOrders
+pub mod Languages
 pub mod Candidates
 pub mod Joins
 pub mod Graphs
@@ -44,5 +45,6 @@ pub mod Typing
 pub mod Following
 pub mod Calling
 pub mod Iterating
+pub mod Memory
 pub mod Naming
 pub mod Lines

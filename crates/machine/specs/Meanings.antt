@@ -27,6 +27,7 @@ use Rattle.vocabulary.specs.Words.{signature}
 use Rattle.machine.specs.Arguments.{name_in}
 use Rattle.machine.specs.Bases.{World}
 use Rattle.machine.specs.CallArguments.{call_asked}
+use Rattle.machine.specs.Languages.{Language, only_if}
 use Rattle.machine.specs.Making.{Asked, with_view}
 use Rattle.machine.specs.Parts.{Part, text_at}
 use Rattle.machine.specs.State.{Bound, Names, named, to_iterator, to_view}
@@ -115,7 +116,7 @@ acting world names for is_last on a b c (Some (action.Step form)) = step_typed w
 acting world names for is_last on a b c (Some (action.Call form)) = if may_call for is_last then call_typed world names on form a b c else Err fault.Call
 acting world names for is_last on a b c (Some (action.Make word)) = an_end (may_make for is_last) (makes word)
 
--- what a word does on a view of a shape, or its fault
-unfoldable pub typed_word : World → Names → Purpose → Bool → Shape → Part → Result Meaning Fault
-typed_word world names for is_last on part =
-    acting world names for is_last on (text_at part.args 0) (text_at part.args 1) (text_at part.args 2) (signature (sort_of on) part.word (length part.args))
+-- what a word of a language does on a view of a shape, or its fault
+unfoldable pub typed_word : Language → World → Names → Purpose → Bool → Shape → Part → Result Meaning Fault
+typed_word language world names for is_last on part =
+    acting world names for is_last on (text_at part.args 0) (text_at part.args 1) (text_at part.args 2) (only_if language.words (signature (sort_of on) part.word (length part.args)))

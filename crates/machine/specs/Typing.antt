@@ -7,6 +7,7 @@ use Rattle.vocabulary.specs.declared.refusals.Refusal.{Refusal}
 use Rattle.vocabulary.specs.declared.shapes.Shape.{Shape}
 use Rattle.vocabulary.specs.declared.shapes.Shape.TheVariants as shape
 use Rattle.machine.specs.Bases.{World}
+use Rattle.machine.specs.Languages.{Language}
 use Rattle.machine.specs.Making.{Asked}
 use Rattle.machine.specs.Meanings.{Ending, Meaning, ends, if_fits, shows, steps_to, typed_word}
 use Rattle.machine.specs.Parts.{Part}
@@ -38,9 +39,9 @@ is_last [] = true
 is_last (part ∷ parts) = false
 
 -- the words in turn on a view of a shape, or the first fault
-abbrev pub typed_words : World → Names → Purpose → Shape → List Part → Result Typing Fault
-typed_words world names for on [] = Ok (only on shows)
-typed_words world names for on (part ∷ parts) = go_on on (λ next. typed_words world names for next parts) (typed_word world names for (is_last parts) on part)
+abbrev pub typed_words : Language → World → Names → Purpose → Shape → List Part → Result Typing Fault
+typed_words language world names for on [] = Ok (only on shows)
+typed_words language world names for on (part ∷ parts) = go_on on (λ next. typed_words language world names for next parts) (typed_word language world names for (is_last parts) on part)
 
 -- ---- what an expression may end in
 
@@ -53,8 +54,8 @@ abbrev pub typed_end : Typing → Result Typing Fault
 typed_end t = if may_end t.gives t.ending then Ok t else Err fault.Call
 
 -- the words of an expression for a reply or a name, and then its end
-abbrev pub typed : World → Names → Purpose → Shape → List Part → Result Typing Fault
-typed world names for on parts = if_fits typed_end (typed_words world names for on parts)
+abbrev pub typed : Language → World → Names → Purpose → Shape → List Part → Result Typing Fault
+typed language world names for on parts = if_fits typed_end (typed_words language world names for on parts)
 
 -- which views an iterator takes
 abbrev pub iterates : Shape → Bool

@@ -18,6 +18,7 @@ use Rattle.script_text.specs.Names.{is_name, is_kind}
 use Rattle.script_text.specs.Stages.{reading}
 use Rattle.vocabulary.specs.Kinds as kinds
 use Rattle.vocabulary.specs.Words as words
+use Rattle.machine.specs.Languages.{whole}
 use Rattle.machine.specs.Lines.{replies}
 use Rattle.machine.specs.Meanings.{typed_word}
 use Rattle.machine.specs.State.{State, empty}
@@ -41,7 +42,7 @@ reply_in (b ∷ text) = Some (b ∷ text)
 
 -- the lines, one after another from a state, have these replies
 abbrev pub RunsFrom : State → List (String × String) → Type 0
-RunsFrom state script = replies state (map (λ (e : String × String). bytes e.0) script) ≡ map (λ (e : String × String). reply_in (bytes e.1)) script
+RunsFrom state script = replies whole state (map (λ (e : String × String). bytes e.0) script) ≡ map (λ (e : String × String). reply_in (bytes e.1)) script
 
 -- and from the state with nothing in it
 abbrev pub Runs : List (String × String) → Type 0

@@ -12,3 +12,5 @@ pub mod Refusals
 pub mod Fits
 pub mod Needs
 pub mod Words
+pub mod Known
+pub mod WordLaws

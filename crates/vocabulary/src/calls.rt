@@ -1,5 +1,8 @@
 //! The calls on views, by what they take.
 
+ghost use Rattle.std.specs.Prelude.{◌≡◌};
+ghost use Rattle.vocabulary.specs.Known.{form_of_call};
+
 use crate::Item;
 use build_base::Finish;
 use elem::{Elem, Span};
@@ -260,6 +263,26 @@ pub enum Call {
     SpanValue(OnSpanValue, Span, Elem),
     /// What is added to a builder: none where an element comes a negative number of times.
     Build(OnBuilder, Option<Item>),
+}
+
+impl Call {
+    /// The call without its arguments.
+    pub fn form(&self) -> CallForm
+        ensures { result ≡ form_of_call self.now }
+    {
+        match self {
+            Call::Ask(word) => CallForm::Ask(*word),
+            Call::Element(word, _) => CallForm::Element(*word),
+            Call::Index(word, _) => CallForm::Index(*word),
+            Call::Indexed(word, _, _) => CallForm::Indexed(*word),
+            Call::Counted(word, _, _) => CallForm::Counted(*word),
+            Call::Pair(word, _, _) => CallForm::Pair(*word),
+            Call::Triple(word, _, _, _) => CallForm::Triple(*word),
+            Call::Span(word, _) => CallForm::Span(*word),
+            Call::SpanValue(word, _, _) => CallForm::SpanValue(*word),
+            Call::Build(word, _) => CallForm::Build(*word),
+        }
+    }
 }
 
 /// The words that make a base of which nothing changes any more. They stand last in a line that gives a name.
