@@ -21,7 +21,7 @@ use Rattle.view_laws.proofs.ListLemmas.{and-assoc, and-false, and-true}
 use Rattle.view_laws.proofs.OptionLemmas.{if_any, if_as, if_map, if_then}
 use Rattle.view_laws.proofs.WindowLemmas.{lies_in-both, same_order-is}
 
-and-swap : (a b : Bool) → a && b ≡ b && a
+pub and-swap : (a b : Bool) → a && b ≡ b && a
 and-swap true b = sym (and-true b)
 and-swap false b = sym (and-false b)
 

@@ -18,3 +18,14 @@ pub mod TestLemmas
 pub mod RowLemmas
 pub mod LiftTable
 pub mod LiftLemmas
+pub mod FormTable
+pub mod FormLemmas
+pub mod TellTable
+pub mod OrderTable
+pub mod DownLemmas
+pub mod EachLemmas
+pub mod Examples
+pub mod RowPlaceLemmas
+pub mod FormPlaces
+pub mod RowChangeLemmas
+pub mod SearchLemmas

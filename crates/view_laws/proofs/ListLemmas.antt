@@ -25,6 +25,10 @@ both_true true true h = (refl, refl)
 both_true true false h = cc
 both_true false b h = cc
 
+pub neither_true : (a b : Bool) → a || b ≡ false → (a ≡ false) × (b ≡ false)
+neither_true true b h = cc
+neither_true false b h = (refl, h)
+
 -- the first of two tests, which the second implies, may be left out
 pub and-implied : (a b : Bool) → (b ≡ true → a ≡ true) → a && b ≡ b
 and-implied a true h = ap (λ c. c && true) (h refl)

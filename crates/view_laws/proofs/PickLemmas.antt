@@ -115,7 +115,7 @@ take-taken (suc n) zero xs = ap (λ k. take k xs) (let e : 0 ≡ min (suc n) 0 =
 take-taken (suc n) (suc m) [] = ap (λ k. take k []) (let e : suc (min n m) ≡ min (suc n) (suc m) = omega arith in e)
 take-taken (suc n) (suc m) (x ∷ xs) = ap (λ ys. x ∷ ys) (take-taken n m xs) ∙ ap (λ k. take k (x ∷ xs)) (let e : suc (min n m) ≡ min (suc n) (suc m) = omega arith in e)
 
-filter-passing : {X : Type 0} (p : X → Bool) (xs : List X) → AllByRecursion (λ x. p x ≡ true) xs → filter p xs ≡ xs
+pub filter-passing : {X : Type 0} (p : X → Bool) (xs : List X) → AllByRecursion (λ x. p x ≡ true) xs → filter p xs ≡ xs
 filter-passing p [] a = refl
 filter-passing p (x ∷ xs) a = rw (a.0, filter-passing p xs a.1) refl
 

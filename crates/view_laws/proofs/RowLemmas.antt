@@ -48,11 +48,11 @@ pub turned-map : {X Y : Type 0} (f : X → Y) (t : Bool) (xs : List X) → map f
 turned-map f true xs = map-reverse f xs
 turned-map f false xs = refl
 
-turned-filter : {X : Type 0} (p : X → Bool) (t : Bool) (xs : List X) → filter p (turned_if t xs) ≡ turned_if t (filter p xs)
+pub turned-filter : {X : Type 0} (p : X → Bool) (t : Bool) (xs : List X) → filter p (turned_if t xs) ≡ turned_if t (filter p xs)
 turned-filter p true xs = filter-reverse p xs
 turned-filter p false xs = refl
 
-turned-round : {X : Type 0} (t : Bool) (xs : List X) → reverse (turned_if t xs) ≡ turned_if (not t) xs
+pub turned-round : {X : Type 0} (t : Bool) (xs : List X) → reverse (turned_if t xs) ≡ turned_if (not t) xs
 turned-round true xs = reverse-reverse xs
 turned-round false xs = refl
 

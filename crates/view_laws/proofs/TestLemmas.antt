@@ -82,7 +82,7 @@ element_is x (RangeEntry s v) h t = absurd (cc)
 element_is x (Pair a b) h t = absurd (cc)
 element_is x (Edge a b v) h t = absurd (cc)
 
-element_shown : (x : Elem) (cs : List Candidate) → AreElements cs → shows cs (One x) ≡ shows_in (of_element x) cs
+pub element_shown : (x : Elem) (cs : List Candidate) → AreElements cs → shows cs (One x) ≡ shows_in (of_element x) cs
 element_shown x cs elements =
     any-all (λ (c : Candidate). c.seen && same_item (One x) c.item) (λ (c : Candidate). c.seen && takes (of_element x) c.item) cs (all-as _ _ (λ (c : Candidate) h. ap (λ b. c.seen && b) (sym (element_taken x c.item h))) cs elements)
 

@@ -8,3 +8,10 @@ pub mod Narrowing
 pub mod LineLaws
 pub mod LookUps
 pub mod RowForm
+pub mod ItemForms
+pub mod ShapeNarrowing
+pub mod GroupOrders
+pub mod LanesDown
+pub mod RowPlaces
+pub mod RowChanges
+pub mod Searches

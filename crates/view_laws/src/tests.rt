@@ -1,7 +1,7 @@
 //! The columns of the steps of a multimap, a table and a list.
 use crate::*;
 use elem::{Cut, Elem, Window};
-use vocabulary::{GroupForm, Item, Order, PlainStep, Side, Step, Sublist};
+use vocabulary::{GroupForm, Item, Kind, Order, PlainStep, Shape, Side, Step, Sublist, ValueShape};
 
 fn asking_first(x: Elem) -> Lane {
     Lane {
@@ -105,4 +105,75 @@ fn places_of_the_second_stand_behind(rt: HostRuntime) {
         },
     );
     assert!(rt; found.seen && matches!(found.item, Item::Entry(Elem::Int(6), Elem::Int(5))));
+}
+
+#[test]
+fn values_of_pairs_are_told_and_values_of_cells_are_not(rt: HostRuntime) {
+    let x = Elem::Int(3);
+    let values = Step::Plain(PlainStep::Values);
+    let pairs = Shape::Multimap {
+        values: ValueShape::List,
+        sorted: false,
+    };
+    let cells = Shape::Table {
+        mirrored: false,
+        sorted: true,
+    };
+    let Some(below) = narrow_on(pairs, GroupOrder::ByFirst, &values, &asking_first(x)) else {
+        assert!(rt; false, "a lane");
+        return;
+    };
+    assert!(rt; takes(&below, &Item::Entry(Elem::Int(1), x)));
+    assert!(rt;
+        matches!(
+            narrow_on(cells, GroupOrder::ByFirst, &values, &asking_first(x)),
+            None
+        )
+    );
+    assert!(rt;
+        matches!(
+            narrow_on(cells, GroupOrder::ByFirst, &values, &all()),
+            Some(_)
+        )
+    );
+    let in_row = Step::At(Side::First, x, 0);
+    assert!(rt; tells_on(cells, &in_row, Side::First) && !tells_on(cells, &in_row, Side::Second));
+    let firsts = Lane {
+        first: PartAsk::Any,
+        second: PartAsk::Any,
+        pick: Pick::Firsts(Side::Second, GroupOrder::ByFirst),
+    };
+    assert!(rt; asks_part(&firsts, Side::Second) && !asks_part(&firsts, Side::First));
+}
+
+#[test]
+fn keys_go_as_the_base_keeps_them_unless_they_are_of_a_map(rt: HostRuntime) {
+    let pairs = Shape::Multimap {
+        values: ValueShape::Set,
+        sorted: false,
+    };
+    let cells = Shape::Table {
+        mirrored: false,
+        sorted: true,
+    };
+    let keys = Step::Plain(PlainStep::Keys);
+    let columns = Step::Group(Side::Second, GroupForm::Keys);
+    assert!(rt;
+        matches!(
+            order_on(Kind::LinkedHashMultimap, false, pairs, &keys),
+            GroupOrder::OfBase
+        )
+    );
+    assert!(rt;
+        matches!(
+            order_on(Kind::LinkedHashMap, true, pairs, &keys),
+            GroupOrder::ByFirst
+        )
+    );
+    assert!(rt;
+        matches!(
+            order_on(Kind::TreeBasedTable, false, cells, &columns),
+            GroupOrder::Sorted(Order::Natural)
+        )
+    );
 }

@@ -1,0 +1,5 @@
+use Rattle.view_laws.proofs.SearchLemmas as search
+use Rattle.view_laws.proofs.search_laws.one_alike.Goals as goal
+
+pub returns : goal.returns
+returns c = search.one_alike
