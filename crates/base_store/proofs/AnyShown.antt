@@ -1,15 +1,20 @@
 -- Whether a removal took rows: where the view showed an item that passes.
-use Rattle.std.proofs.Common.{◌≡◌, ℕ, suc, ◌<◌, ◌≤◌, Bool, true, false, cond, ◌&&◌, ◌||◌, not, List, [], ◌∷◌, length, map, reverse, set, refl, sym, ap, ◌∙◌, subst, arith, nat_lt}
+use Rattle.std.proofs.Common.{◌≡◌, ℕ, suc, ◌<◌, ◌≤◌, Bool, true, false, cond, ◌&&◌, ◌||◌, not, List, [], ◌∷◌, length, map, reverse, refl, sym, ap, ◌∙◌, arith, nat_lt}
 use Rattle.std.specs.Prelude.{filter}
 use Rattle.std.specs.List.{list_any}
 use Rattle.std.proofs.lemmas.Bool.Decides.{nat_tests}
 use Rattle.std.proofs.lemmas.List.Sorted.{list_any-IsPermutation, IsPermutation-reverse}
-use Rattle.view_steps.specs.declared.items.Item.{Item}
-use Rattle.view_steps.specs.Answering.{all_hits}
-use Rattle.view_steps.specs.Edits.{edited, removing, world_after, without_rows}
-use Rattle.view_steps.specs.Lanes.{turned_if}
-use Rattle.view_steps.specs.RowForm.{RowForm, form_of, is_row_hit, shows}
-use Rattle.view_steps.specs.Views.{Base, World, View, base_at, base_under, candidates, shown}
+use Rattle.vocabulary.specs.declared.items.Item.{Item}
+use Rattle.machine.specs.CallEdits.{all_hits}
+use Rattle.machine.specs.Edits.{edited, removing, without_rows}
+use Rattle.view_steps.specs.KnownViews.{edited_at, is_known_view, number_under}
+use Rattle.view_laws.specs.Lanes.{turned_if}
+use Rattle.view_laws.specs.RowForm.{RowForm, form_of, shows}
+use Rattle.view_steps.specs.RowHits.{is_row_hit}
+use Rattle.machine.specs.Bases.{Base, World, base_at}
+use Rattle.machine.specs.Leaves.{leaf_at}
+use Rattle.machine.specs.Views.{View, base_under, candidates, shown}
+use Rattle.view_steps.proofs.KnownLemmas.{known_base}
 use Rattle.view_steps.proofs.ListLemmas.{fewer}
 use Rattle.view_steps.proofs.RowHits.{without_hits}
 use Rattle.view_steps.proofs.RowLemmas.{shown_law}
@@ -54,20 +59,21 @@ any_of_rows p f (row ∷ rows) = by (shows f row) (any_of_rows p f rows)
     by true ih = ap (λ c. p (f.item row) || c) ih
     by false ih = ih
 
-any_gone : (world : World) (v : View) (p : Item → Bool) → nat_lt (length (without_rows (all_hits p (candidates world v)) 0 (base_at world (base_under v)).rows)) (length (base_at world (base_under v)).rows) ≡ list_any p (shown world v)
-any_gone world v p =
+any_gone : (world : World) (v : View) → is_known_view v ≡ true → (p : Item → Bool) → nat_lt (length (without_rows (all_hits p (candidates world v)) 0 (leaf_at world (base_under v)).rows)) (length (leaf_at world (base_under v)).rows) ≡ list_any p (shown world v)
+any_gone world v known p =
     let f : RowForm = form_of v in
-    let rows : List Item = (base_at world (base_under v)).rows in
-    ap (λ (left : List Item). nat_lt (length left) (length rows)) (without_hits world v p)
+    let rows : List Item = (leaf_at world (base_under v)).rows in
+    ap (λ (left : List Item). nat_lt (length left) (length rows)) (without_hits world v known p)
     ∙ fewer_left (is_row_hit p f) rows
-    ∙ sym (ap (list_any p) (shown_law world v) ∙ any_turned p f.turned (map f.item (filter (shows f) rows)) ∙ any_of_rows p f rows)
+    ∙ sym (ap (list_any p) (shown_law world v known) ∙ any_turned p f.turned (map f.item (filter (shows f) rows)) ∙ any_of_rows p f rows)
 
 -- the base has fewer rows after the edit that removes them
-pub any_removed : (world : World) (v : View) (p : Item → Bool) (b before after : ℕ) → b < length world → b ≡ base_under v → before ≡ length (base_at world b).rows
-    → after ≡ length (base_at (world_after world b (removing (all_hits p (candidates world v)))) b).rows → nat_lt after before ≡ list_any p (shown world v)
-any_removed world v p b before after lt under was is =
+pub any_removed : (world : World) (v : View) → is_known_view v ≡ true → (p : Item → Bool) (b before after : ℕ) → b < length world → b ≡ number_under v → before ≡ length (base_at world b).rows
+    → after ≡ length (base_at (edited_at world b (removing (all_hits p (candidates world v)))) b).rows → nat_lt after before ≡ list_any p (shown world v)
+any_removed world v known p b before after lt under was is =
     let it : Base = edited (base_at world b) (removing (all_hits p (candidates world v))) in
     let after_is : after ≡ length (without_rows (all_hits p (candidates world v)) 0 (base_at world b).rows) = is ∙ ap (λ (x : Base). length x.rows) (written_at world b it lt) in
     (λ i. nat_lt (after_is i) (was i))
     ∙ ap (λ (n : ℕ). nat_lt (length (without_rows (all_hits p (candidates world v)) 0 (base_at world n).rows)) (length (base_at world n).rows)) under
-    ∙ any_gone world v p
+    ∙ sym (ap (λ (at : Base). nat_lt (length (without_rows (all_hits p (candidates world v)) 0 at.rows)) (length at.rows)) (known_base world v known))
+    ∙ any_gone world v known p

@@ -1,14 +1,18 @@
 -- What is constant of a view stays while rows come and go, and each node keeps the facts of its view.
-use Rattle.std.proofs.Common.{◌≡◌, ℕ, ◌<◌, List, [], ◌∷◌, ◌++◌, length, set, take, drop, refl, ap, sym, ◌∙◌, inl, inr, arith, length-append}
+use Rattle.std.proofs.Common.{◌≡◌, ℕ, ◌<◌, true, List, [], ◌∷◌, ◌++◌, length, set, take, drop, refl, ap, sym, ◌∙◌, inl, inr, arith, length-append}
 use Rattle.std.specs.Prelude.{slice_get, Some}
 use Rattle.std.proofs.lemmas.Bool.{cases_eq, cases_lt}
 use Rattle.std.proofs.lemmas.List.{get_or_push, get_or-set_other, length-take, take-append-drop}
 use Rattle.std.proofs.lemmas.Option.{slice_get-get_or, slice_get_within}
-use Rattle.view_steps.specs.declared.shapes.Shape.{Shape}
-use Rattle.view_steps.specs.declared.kinds.Kind.TheVariants.{LinkedHashMap}
-use Rattle.view_steps.specs.Kinds.{shape_of_kind}
-use Rattle.view_steps.specs.Steps.{apply}
-use Rattle.view_steps.specs.Views.{Base, World, View, base, over, base_at, base_under, empty_base, shape_at, shape_after, flags_at}
+use Rattle.vocabulary.specs.declared.shapes.Shape.{Shape}
+use Rattle.vocabulary.specs.declared.kinds.Kind.TheVariants.{LinkedHashMap}
+use Rattle.vocabulary.specs.Kinds.{shape_of_kind}
+use Rattle.vocabulary.specs.StepShapes.{apply}
+use Rattle.machine.specs.Bases.{Base, World, base_at, empty_base}
+use Rattle.machine.specs.Leaves.{leaf_at}
+use Rattle.machine.specs.Views.{View, base, both, over, base_under, shape_at, shape_after, flags_at}
+use Rattle.view_steps.specs.KnownViews.{is_known_view, number_under}
+use Rattle.view_steps.proofs.KnownLemmas.{known_base, known_over}
 use Rattle.base_store.specs.declared.store.Made.{Made}
 use Rattle.base_store.specs.declared.store.facts.Facts.{Facts}
 use Rattle.base_store.specs.Facts.{AreFactsOf, facts_at}
@@ -17,17 +21,28 @@ use Rattle.view_steps.proofs.WorldLemmas.{written_at}
 use Rattle.base_store.proofs.NodeLemmas.{in_front}
 use Rattle.base_store.proofs.ViewLemmas.{view_at-append, view_at-take}
 
-shape_stays : (world world' : World) (v : View) → (base_at world' (base_under v)).kind ≡ (base_at world (base_under v)).kind → shape_at world' v ≡ shape_at world v
-shape_stays world world' (base b) same = ap shape_of_kind same
-shape_stays world world' (over step v) same = ap (λ (s : Shape). shape_after s (apply s step)) (shape_stays world world' v same)
+-- what is the same of the base under a known view is the same of its leaf
+pub leaf_stays : {X : Type 0} (f : Base → X) (world world' : World) (v : View) → is_known_view v ≡ true → f (base_at world' (number_under v)) ≡ f (base_at world (number_under v)) → f (leaf_at world' (base_under v)) ≡ f (leaf_at world (base_under v))
+leaf_stays f world world' v known same = ap f (known_base world' v known) ∙ same ∙ sym (ap f (known_base world v known))
 
-flags_stay : (world world' : World) (v : View) → (base_at world' (base_under v)).kind ≡ (base_at world (base_under v)).kind → (base_at world' (base_under v)).frozen ≡ (base_at world (base_under v)).frozen → flags_at world' v ≡ flags_at world v
-flags_stay world world' (base b) same still = rw still refl
-flags_stay world world' (over step v) same still = rw (shape_stays world world' v same, flags_stay world world' v same still) refl
+shape_stays : (world world' : World) (v : View) → is_known_view v ≡ true → (leaf_at world' (base_under v)).kind ≡ (leaf_at world (base_under v)).kind → shape_at world' v ≡ shape_at world v
+shape_stays world world' (base l) known same = ap shape_of_kind same
+shape_stays world world' (over step v) known same = ap (λ (s : Shape). shape_after s (apply s step)) (shape_stays world world' v (known_over step v known).1 same)
+shape_stays world world' (both word v u) known same = absurd (cc)
+
+flags_stay : (world world' : World) (v : View) → is_known_view v ≡ true → (leaf_at world' (base_under v)).kind ≡ (leaf_at world (base_under v)).kind → (leaf_at world' (base_under v)).frozen ≡ (leaf_at world (base_under v)).frozen → flags_at world' v ≡ flags_at world v
+flags_stay world world' (base l) known same still = rw still refl
+flags_stay world world' (over step v) known same still =
+    let below = (known_over step v known).1 in
+    rw (shape_stays world world' v below same, flags_stay world world' v below same still) refl
+flags_stay world world' (both word v u) known same still = absurd (cc)
 
 -- the facts of a view depend on the kind of its base and on its frozen mark alone
-pub facts_stay : (world world' : World) (v : View) → (base_at world' (base_under v)).kind ≡ (base_at world (base_under v)).kind → (base_at world' (base_under v)).frozen ≡ (base_at world (base_under v)).frozen → facts_at world' v ≡ facts_at world v
-facts_stay world world' v same still = rw (shape_stays world world' v same, flags_stay world world' v same still) refl
+pub facts_stay : (world world' : World) (v : View) → is_known_view v ≡ true → (base_at world' (number_under v)).kind ≡ (base_at world (number_under v)).kind → (base_at world' (number_under v)).frozen ≡ (base_at world (number_under v)).frozen → facts_at world' v ≡ facts_at world v
+facts_stay world world' v known same still =
+    let kind = leaf_stays (λ (it : Base). it.kind) world world' v known same in
+    let mark = leaf_stays (λ (it : Base). it.frozen) world world' v known still in
+    rw (shape_stays world world' v known kind, flags_stay world world' v known kind mark) refl
 
 -- what stands in the front of a list stands in the list
 pub front_at : {X : Type 0} (xs : List X) (k n : ℕ) (x : X) → slice_get (take k xs) n ≡ Some x → slice_get xs n ≡ Some x
@@ -68,11 +83,11 @@ facts_push world nodes facts node fact h is = record {
         ]
 
 -- the facts of the nodes in a world whose bases have the kinds and the marks that they had
-pub facts_world : (world world' : World) (nodes : List Made) (facts : List Facts) → ((n : ℕ) → n < length nodes → base_under (view_at nodes n) < length world) → ((b : ℕ) → b < length world → (base_at world' b).kind ≡ (base_at world b).kind)
+pub facts_world : (world world' : World) (nodes : List Made) (facts : List Facts) → ((n : ℕ) → n < length nodes → is_known_view (view_at nodes n) ≡ true) → ((n : ℕ) → n < length nodes → number_under (view_at nodes n) < length world) → ((b : ℕ) → b < length world → (base_at world' b).kind ≡ (base_at world b).kind)
     → ((b : ℕ) → b < length world → (base_at world' b).frozen ≡ (base_at world b).frozen) → AreFactsOf world nodes facts → AreFactsOf world' nodes facts
-facts_world world world' nodes facts under same still h = record {
+facts_world world world' nodes facts known under same still h = record {
   as_many = h.as_many;
-  each = λ n lt. let b : ℕ = base_under (view_at nodes n) in h.each n lt ∙ ap Some (sym (facts_stay world world' (view_at nodes n) (same b (under n lt)) (still b (under n lt))));
+  each = λ n lt. let b : ℕ = number_under (view_at nodes n) in h.each n lt ∙ ap Some (sym (facts_stay world world' (view_at nodes n) (known n lt) (same b (under n lt)) (still b (under n lt))));
 }
 
 -- a base that changed has the mark that it had

@@ -1,5 +1,5 @@
 -- Steps that are kept by a table of parts: what they are stays while the table grows, and where it is put behind another.
-use Rattle.std.proofs.Common.{◌≡◌, ℕ, ◌+◌, ◌-◌, ◌*◌, ◌<◌, ◌≤◌, List, [], ◌∷◌, ◌++◌, length, take, drop, refl, ap, sym, ◌∙◌, subst, get_or, arith, length-append, zero, suc}
+use Rattle.std.proofs.Common.{◌≡◌, ℕ, ◌+◌, ◌-◌, ◌<◌, ◌≤◌, List, [], ◌∷◌, ◌++◌, length, take, drop, refl, ap, sym, ◌∙◌, subst, get_or, arith, length-append, zero, suc}
 use Rattle.std.specs.Prelude.{map, slice_get, Some}
 use Rattle.std.proofs.lemmas.List.{append-nil, append_assoc, drop-append-le, length-drop, length-map, map-append, take-append-le}
 use Rattle.std.proofs.lemmas.Option.{same_Some, slice_get-get_or, slice_get_within}
@@ -7,7 +7,6 @@ use Rattle.std.proofs.Math.Seq.{drop-append-add}
 use Rattle.fn_lang.specs.declared.parts.Part.{Part}
 use Rattle.fn_lang.specs.Flat.{IsFunc, IsPairPred, IsPred}
 use Rattle.fn_lang.specs.PartTrees.{func_of, pair_of, pred_of}
-use Rattle.base_store.specs.declared.store.Made.{Made}
 use Rattle.base_store.specs.declared.store.Made.TheVariants as made
 use Rattle.base_store.specs.declared.store.facts.Facts.{Facts}
 use Rattle.base_store.specs.declared.store.kept.Kept.{Kept}
@@ -18,7 +17,7 @@ use Rattle.base_store.specs.declared.store.kept.KeptStep.TheVariants as kept
 use Rattle.base_store.specs.declared.store.kept.Run.{Run}
 use Rattle.base_store.specs.KeptSteps.{AllStand, AreTabled, MadeStands, StandsAs, StandsIn, facts_in, listed, made_by, made_in, run_in, step_in}
 use Rattle.base_store.specs.NodeLists.{all_kept}
-use Rattle.view_steps.specs.declared.steps.Step.TheVariants as step
+use Rattle.vocabulary.specs.declared.steps.Step.TheVariants as step
 
 -- each run of the one table is a run of the other, with the same parts
 abbrev SameRuns : ℕ → List Part → ℕ → List Part → Type 0

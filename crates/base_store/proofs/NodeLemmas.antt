@@ -3,8 +3,9 @@ use Rattle.std.proofs.Common.{◌≡◌, ℕ, ◌+◌, ◌-◌, ◌<◌, ◌≤�
 use Rattle.std.specs.Prelude.{slice_get, Some}
 use Rattle.std.proofs.lemmas.Option.{same_Some, slice_get-get_or}
 use Rattle.std.proofs.lemmas.List.{get_or-append_right, get_or_append_left, get_or_push}
-use Rattle.view_steps.specs.Views.{base, over}
-use Rattle.view_steps.specs.declared.steps.Step.{Step}
+use Rattle.machine.specs.Leaves.{stored}
+use Rattle.machine.specs.Views.{base, over}
+use Rattle.vocabulary.specs.declared.steps.Step.{Step}
 use Rattle.base_store.specs.Nodes.{IsBelow, view_at}
 use Rattle.base_store.proofs.ViewLemmas.{view_at-node, view_at-append}
 use Rattle.base_store.specs.Stored.{Stored, view_in}
@@ -35,7 +36,7 @@ below_more bases more n (made.Base b) le h = let lt : b < bases = h in omega ari
 below_more bases more n (made.Over step parent) le h = h
 
 -- a node that is a base, and one that is a step, as views
-pub base_node : (s : Stored) (n b : ℕ) (node : Made) → node ≡ made.Base b → slice_get s.nodes n ≡ Some node → IsBelow (length s.world) n node → (view_in s n ≡ base b) × (b < length s.world)
+pub base_node : (s : Stored) (n b : ℕ) (node : Made) → node ≡ made.Base b → slice_get s.nodes n ≡ Some node → IsBelow (length s.world) n node → (view_in s n ≡ base (stored b)) × (b < length s.world)
 base_node s n b node e is below =
     let below' : IsBelow (length s.world) n (made.Base b) = subst (λ (m : Made). IsBelow (length s.world) n m) e below in
     (view_at-node s.nodes n (length s.world) (made.Base b) (is ∙ ap Some e) below', below')
@@ -52,7 +53,7 @@ added_node nodes node =
     slice_get-get_or (nodes ++ node ∷ []) (length nodes) node within ∙ ap Some (get_or_push nodes node node (length nodes) refl)
 
 -- a base, and a step, added to the nodes
-pub added_base : (nodes : List Made) (b : ℕ) → view_at (nodes ++ made.Base b ∷ []) (length nodes) ≡ base b
+pub added_base : (nodes : List Made) (b : ℕ) → view_at (nodes ++ made.Base b ∷ []) (length nodes) ≡ base (stored b)
 added_base nodes b = view_at-node (nodes ++ made.Base b ∷ []) (length nodes) (b + 1) (made.Base b) (added_node nodes (made.Base b)) (omega arith)
 
 pub added_step : (nodes : List Made) (step : Step) (parent bases : ℕ) → parent < length nodes → view_at (nodes ++ made.Over step parent ∷ []) (length nodes) ≡ over step (view_at nodes parent)

@@ -4,7 +4,8 @@ use Rattle.std.specs.Prelude.{slice_get, fold, Some}
 use Rattle.std.proofs.lemmas.Option.{same_Some}
 use Rattle.std.proofs.lemmas.List.{get_or_append_left, get_or_push, take-append-drop}
 use Rattle.std.proofs.lemmas.Grind.{fold-append}
-use Rattle.view_steps.specs.Views.{base, over}
+use Rattle.machine.specs.Leaves.{stored}
+use Rattle.machine.specs.Views.{base, over}
 use Rattle.base_store.specs.Nodes.{made_of, view_of, view_at, IsBelow}
 use Rattle.base_store.specs.declared.store.Made.{Made}
 use Rattle.base_store.specs.declared.store.Made.TheVariants.{Base, Over}
@@ -61,11 +62,11 @@ view_asks at at' n bases (Over step parent) below same = let e : at parent ≡ a
 -- a node's view, by the view of its parent
 pub view_at-node : (nodes : List Made) (n bases : ℕ) (node : Made) → slice_get nodes n ≡ Some node → IsBelow bases n node → view_at nodes n ≡ view_of (view_at nodes) node
 unfolding view_at
-view_at-node nodes n bases node is below = at_node (base 0) view_of view_asks [] nodes n n bases node is (zero-add n) below
+view_at-node nodes n bases node is below = at_node (base (stored 0)) view_of view_asks [] nodes n n bases node is (zero-add n) below
 
 pub view_at-append : (nodes more : List Made) (n : ℕ) → n < length nodes → view_at (nodes ++ more) n ≡ view_at nodes n
 unfolding view_at
-view_at-append nodes more n lt = made-append (base 0) view_of nodes more n lt
+view_at-append nodes more n lt = made-append (base (stored 0)) view_of nodes more n lt
 
 -- the nodes at the front have their views without those behind
 pub view_at-take : (nodes : List Made) (k n : ℕ) → n < length (take k nodes) → view_at (take k nodes) n ≡ view_at nodes n

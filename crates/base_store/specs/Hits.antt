@@ -1,6 +1,6 @@
 -- Nodes that stand over nodes before them.
 use Rattle.std.specs.Prelude.{◌≡◌, ℕ, ◌<◌, List, slice_get, Some}
-use Rattle.view_steps.specs.declared.steps.Step.{Step}
+use Rattle.vocabulary.specs.declared.steps.Step.{Step}
 use Rattle.base_store.specs.declared.store.Made.{Made}
 use Rattle.base_store.specs.declared.store.Made.TheVariants.{Over}
 

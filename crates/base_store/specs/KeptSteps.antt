@@ -14,8 +14,8 @@ use Rattle.base_store.specs.declared.store.kept.KeptStep.{KeptStep}
 use Rattle.base_store.specs.declared.store.kept.KeptStep.TheVariants as kept
 use Rattle.base_store.specs.declared.store.kept.Run.{Run}
 use Rattle.base_store.specs.NodeLists.{NodeList}
-use Rattle.view_steps.specs.declared.steps.Step.{Step}
-use Rattle.view_steps.specs.declared.steps.Step.TheVariants as step
+use Rattle.vocabulary.specs.declared.steps.Step.{Step}
+use Rattle.vocabulary.specs.declared.steps.Step.TheVariants as step
 
 -- the parts of a run, in a table whose first part has the number `from`
 abbrev pub run_in : ℕ → List Part → Run → List Part
@@ -72,11 +72,10 @@ pub record AreTabled (parts temporary_parts : List Part) (lasting temporary : Li
 
 -- the parts of a step's predicate or function
 abbrev pub parts_of : Step → List Part
-parts_of (step.Plain word) = []
 parts_of (step.Filter word p) = pred_parts p
 parts_of (step.FilterPairs q) = pair_parts q
 parts_of (step.Change word f) = func_parts f
-parts_of (step.Within order window) = []
+parts_of other = []
 
 -- all nodes, by the two tables
 abbrev pub listed : List Part → List Part → List Kept → List Kept → NodeList

@@ -1,14 +1,9 @@
-pub mod Adding
-pub mod BaseRows
-pub mod KeyLines
 pub mod Hits
 pub mod Limits
 pub mod Nodes
 pub mod Stored
 pub mod Unfolding
-pub mod Journals
 pub mod BaseLanes
-pub mod Reaches
 pub mod Facts
 pub mod NodeLists
 pub mod KeptSteps

@@ -1,16 +1,20 @@
 -- A store as contracts see it: its bases, and its nodes.
-use Rattle.std.specs.Prelude.{◌≡◌, ℕ, ◌+◌, ◌<◌, ◌≤◌, List, [], ◌∷◌, ◌++◌, length, take, Some, slice_get}
+use Rattle.std.specs.Prelude.{◌≡◌, ℕ, ◌+◌, ◌<◌, ◌≤◌, true, List, [], ◌∷◌, ◌++◌, length, take, Some, slice_get}
 use Rattle.base_store.specs.declared.store.Made.{Made}
 use Rattle.base_store.specs.declared.store.Made.TheVariants as made
 use Rattle.base_store.specs.declared.store.facts.Facts.{Facts}
 use Rattle.base_store.specs.Facts.{AreFactsOf}
 use Rattle.base_store.specs.Limits.{most_handles}
 use Rattle.base_store.specs.Nodes.{IsBelow, view_at}
-use Rattle.view_steps.specs.declared.kinds.Kind.{Kind}
-use Rattle.view_steps.specs.Limits.{rows_in, most_rows}
-use Rattle.view_steps.specs.KeptSteps.{IsMade}
+use Rattle.vocabulary.specs.declared.kinds.Kind.{Kind}
+use Rattle.machine.specs.RowCounts.{rows_in}
+use Rattle.vocabulary.specs.Limits.{most_rows}
+use Rattle.machine.specs.MadeViews.{IsMade}
 use Rattle.view_steps.specs.Places.{HasKeys}
-use Rattle.view_steps.specs.Views.{World, View, base_at, empty_base}
+use Rattle.machine.specs.Bases.{World, base_at, empty_base}
+use Rattle.machine.specs.Views.{View}
+use Rattle.view_steps.specs.KnownViews.{is_known_view}
+use Rattle.vocabulary.specs.Known.{is_known_kind}
 
 -- the nodes at the front last, and those behind them are temporary; what lasts was counted by handles
 pub record Stored : Type 0 where
@@ -23,11 +27,14 @@ pub record Stored : Type 0 where
 abbrev pub view_in : Stored → ℕ → View
 view_in s n = view_at s.nodes n
 
--- every node stands on what stands before it, and takes a step that the view below it has; no base has a key twice
+-- every node stands on what stands before it, and takes a known step that the view below it has; each base is of a known
+-- kind and has no key twice
 pub record IsBuilt (s : Stored) : Type 0 where
   pub below : (n : ℕ) (node : Made) → slice_get s.nodes n ≡ Some node → IsBelow (length s.world) n node
   pub lasting : s.lasting ≤ length s.nodes
   pub made : (n : ℕ) → n < length s.nodes → IsMade s.world (view_in s n)
+  pub known : (n : ℕ) → n < length s.nodes → is_known_view (view_in s n) ≡ true
+  pub kinds : (b : ℕ) → is_known_kind (base_at s.world b).kind ≡ true
   pub keys : (b : ℕ) → HasKeys (base_at s.world b)
 
 -- the nodes are built, each keeps the facts of its view, the rows are counted, and neither they nor the handles pass

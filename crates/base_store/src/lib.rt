@@ -4,12 +4,8 @@
 //! live: what it shows is what its base holds at the moment.
 #![tactic(auto)]
 
-mod base_rows;
-mod reach;
 mod refs;
-mod row_test;
 mod store;
 
 pub use refs::{AnyRef, BaseId, Node};
-pub use row_test::RowTest;
 pub use store::Store;

@@ -1,7 +1,7 @@
 //! The numbers by which a store's bases and views are named, and how a view was made.
 
 use std::marker::Model;
-use view_steps::Step;
+use vocabulary::Step;
 
 /// A view of a store. Contracts see its number.
 #[derive(Clone, Copy, Debug)]
@@ -36,7 +36,7 @@ impl Model for BaseId {
 }
 
 /// How a view was made.
-#[derive(Debug, Drop)]
+#[derive(Drop)]
 pub enum Node<'a> {
     /// It is a base.
     Base(BaseId),

@@ -1,17 +1,24 @@
-ghost use Rattle.std.specs.Prelude.{◌≡◌, ◌+◌, ◌++◌, ◌∷◌, [], ◌<◌, ◌≤◌, ◌⊎◌, length, OnOk, OnErr, IfOk, IfErr, IsSome, None, Some, slice_get};
+ghost use Rattle.std.specs.Prelude.{◌≡◌, ◌+◌, ◌++◌, ◌∷◌, [], ◌<◌, ◌≤◌, ◌⊎◌, length, OnOk, OnErr, IfOk, IfErr, IsSome, None, Some, slice_get, true};
 ghost use Rattle.base_store.specs.Stored.{view_in, with_base, with_kept, with_node, without_temporary};
 ghost use Rattle.base_store.specs.Limits.{most_handles};
 ghost use Rattle.base_store.specs.Unfolding.{Unfolds};
 ghost use Rattle.base_store.specs.Nodes.{IsBelow};
-ghost use Rattle.base_store.specs.BaseRows.{kind_of, rows_of, AreRowsOf};
+ghost use Rattle.base_rows.specs.BaseRows.{kind_of, rows_of, AreRowsOf};
 ghost use Rattle.base_store.specs.Facts.{facts_at};
 ghost use Rattle.base_store.specs.NodeLists.{with_lasting};
 ghost use Rattle.base_store.specs.declared.store.Made.TheVariants.{Base as base_node, Over as step_node};
-ghost use Rattle.view_steps.specs.KeptSteps.{order_at, window_at, IsKept, IsMade};
-ghost use Rattle.view_steps.specs.Limits.{rows_in, most_rows};
+ghost use Rattle.machine.specs.KeptSteps.{order_at, window_at};
+ghost use Rattle.machine.specs.MadeViews.{IsKept, IsMade};
+ghost use Rattle.machine.specs.RowCounts.{rows_in};
+ghost use Rattle.vocabulary.specs.Limits.{most_rows};
 ghost use Rattle.view_steps.specs.Places.{HasKeys};
-ghost use Rattle.view_steps.specs.Steps as table;
-ghost use Rattle.view_steps.specs.Views.{base, over, base_at, base_under, empty_base, path, shape_at, flags_at, turned};
+ghost use Rattle.vocabulary.specs.Known.{is_known_kind};
+ghost use Rattle.vocabulary.specs.StepShapes.{apply};
+ghost use Rattle.machine.specs.Views.{base, over, path, shape_at, flags_at};
+ghost use Rattle.view_steps.specs.KnownViews.{is_known, is_known_view, number_under};
+ghost use Rattle.machine.specs.Leaves.{stored};
+ghost use Rattle.machine.specs.Bases.{base_at, empty_base};
+ghost use Rattle.view_steps.specs.Turning.{turned};
 
 mod dropping;
 mod facts;
@@ -22,17 +29,17 @@ mod shown;
 mod slots;
 mod writing;
 
-use crate::base_rows::BaseRows;
 use crate::{AnyRef, BaseId, Node};
+use base_rows::BaseRows;
 use elem::{NoMemory, Window};
 use facts::Facts;
 use nodes::Nodes;
 use std::alloc::Global;
 use std::marker::Model;
-use view_steps::{Flags, Kind, Order, Refusal, Shape, Step, order_of_kind};
+use vocabulary::{Flags, Kind, Order, Refusal, Shape, Step, order_of_kind};
 
 /// How a node was made: it is the base of a number, or a step over the node of a number.
-#[derive(Debug, Drop)]
+#[derive(Drop)]
 pub enum Made<'a> {
     Base(usize),
     Over(Step<'a>, usize),
@@ -47,12 +54,13 @@ pub struct Slot {
 }
 
 impl Model for Slot {
-    ghost use Rattle.base_store.specs.BaseRows.{kind_of, rows_of};
-    ghost use Rattle.view_steps.specs.Views.{Base};
+    ghost use Rattle.base_rows.specs.BaseRows.{kind_of, rows_of};
+    ghost use Rattle.machine.specs.Bases.{Base};
+    ghost use Rattle.std.specs.Prelude.{[]};
 
     ghost Value = { Base };
 
-    ghost view = { λ s. record { kind = kind_of s.rows; rows = rows_of s.rows; change = s.change; frozen = s.frozen } };
+    ghost view = { λ s. record { kind = kind_of s.rows; rows = rows_of s.rows; keys = []; change = s.change; frozen = s.frozen } };
 }
 
 /// Bases, and the nodes over them.
@@ -103,12 +111,13 @@ impl Store {
         }
     }
 
-    /// A new base without rows, and its node, for one handle. The temporary nodes end.
+    /// A new base without rows, of a known kind, and its node, for one handle. The temporary nodes end.
     ///
     /// # Errors
     ///
     /// `Limit` where there is no handle left, and `NoMemory`.
     pub fn new_base(&mut self, kind: Kind) -> Result<AnyRef, Refusal>
+        requires known { is_known_kind kind ≡ true }
         ensures number { IfOk result (λ n. n ≡ self.old.lasting) }
         ensures ok { OnOk result (self.new ≡ with_base self.old kind) }
         ensures room { OnOk result (self.old.handles < most_handles) }
@@ -129,11 +138,12 @@ impl Store {
         Ok(AnyRef::at(number))
     }
 
-    /// A temporary node: a step over a node, as the rule of `within` leaves the step. It takes no memory.
+    /// A temporary node: a known step over a node, as the rule of `within` leaves the step. It takes no memory.
     pub fn new_view(&mut self, parent: AnyRef, step: &Step) -> AnyRef
         requires parent { parent < length self.old.nodes }
         requires room { length self.old.nodes < self.old.lasting + 32 }
-        requires given { IsSome (table.apply (shape_at self.old.world (view_in self.old parent)) step.now) }
+        requires known { is_known step.now ≡ true }
+        requires given { IsSome (apply (shape_at self.old.world (view_in self.old parent)) step.now) }
         requires kept { IsKept self.old.world (view_in self.old parent) step.now }
         requires short { path (view_in self.old parent) < 32 }
         ensures number { result ≡ length self.old.nodes }
@@ -205,13 +215,15 @@ impl Store {
         self.nodes.facts(n.number())
     }
 
-    /// The base under a node. What stands there is sound: each step is one that the view below it has, and no two rows
-    /// of a set or map have the same key.
+    /// The base under a node. What stands there is sound: each step is known and one that the view below it has, the
+    /// kind of the base is known, and no two rows of a set or map have the same key.
     pub fn base_of(&self, n: AnyRef) -> BaseId
         requires { n < length self.now.nodes }
-        ensures base { result ≡ base_under (view_in self.now n) }
+        ensures base { result ≡ number_under (view_in self.now n) }
         ensures within { result < length self.now.world }
         ensures made { IsMade self.now.world (view_in self.now n) }
+        ensures known { is_known_view (view_in self.now n) ≡ true }
+        ensures kind { is_known_kind (base_at self.now.world result).kind ≡ true }
         ensures keys { HasKeys (base_at self.now.world result) }
     {
         // What is sound about a store is known once a field of it is read.
@@ -321,7 +333,7 @@ impl Store {
 fn add_base(slots: &mut Vec<Slot>, nodes: &mut Nodes, rows: BaseRows) -> Result<(), NoMemory>
     requires { rows_of rows ≡ [] }
     ensures slots { OnOk result (slots.new.items ≡ slots.old.items ++ empty_base (kind_of rows) ∷ []) }
-    ensures nodes { OnOk result (nodes.new ≡ with_lasting nodes.old (base_node (length slots.old.items)) (facts_at (slots.old.items ++ empty_base (kind_of rows) ∷ []) (base (length slots.old.items)))) }
+    ensures nodes { OnOk result (nodes.new ≡ with_lasting nodes.old (base_node (length slots.old.items)) (facts_at (slots.old.items ++ empty_base (kind_of rows) ∷ []) (base (stored (length slots.old.items))))) }
     ensures err { OnErr result ((slots.new.items ≡ slots.old.items) × (nodes.new ≡ nodes.old)) }
 {
     let number = slots.as_slice().len();

@@ -1,3 +1,5 @@
+pub mod UnderLemmas
+pub mod ShapeLemmas
 pub mod WalkLemmas
 pub mod LookUpLemmas
 pub mod FindLemmas

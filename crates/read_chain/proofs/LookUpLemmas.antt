@@ -3,8 +3,8 @@ use Rattle.std.proofs.Common.{◌≡◌, Bool, true, false, cond, ◌&&◌, List
 use Rattle.std.specs.Prelude.{filter, Option, Some, None}
 use Rattle.std.specs.Option.{option_to_list}
 use Rattle.read_chain.specs.Walks.{is_seen_there, item_there, seen_items}
-use Rattle.view_steps.specs.declared.items.Item.{Item}
-use Rattle.view_steps.specs.declared.places.Found.{Found}
+use Rattle.vocabulary.specs.declared.items.Item.{Item}
+use Rattle.view_laws.specs.declared.places.Found.{Found}
 use Rattle.view_steps.proofs.ListLemmas.{filter-filter, filter-map}
 
 -- ---- what is shown at a key

@@ -4,18 +4,24 @@ use Rattle.std.specs.Prelude.{filter, slice_get, Option, Some, None}
 use Rattle.std.proofs.lemmas.Simd.{map-map}
 use Rattle.read_chain.specs.Reads.{leaves_out, shows_all}
 use Rattle.read_chain.specs.Walks.{IsAt, is_seen_there, item_there, seen_items}
-use Rattle.view_steps.specs.declared.items.Item.{Item}
-use Rattle.view_steps.specs.declared.places.Found.{Found}
+use Rattle.vocabulary.specs.declared.items.Item.{Item}
+use Rattle.view_laws.specs.declared.places.Found.{Found}
 use Rattle.view_steps.specs.declared.places.Place.{Place}
-use Rattle.view_steps.specs.declared.step_table.Family.{Family}
-use Rattle.view_steps.specs.declared.step_table.Family.TheVariants.{Same, Changed, Turned, Hidden, Cut}
-use Rattle.view_steps.specs.declared.steps.Step.{Step}
-use Rattle.view_steps.specs.Lanes.{Follows, IsFrom, turned_if}
-use Rattle.view_steps.specs.Places.{found_in}
-use Rattle.view_steps.specs.RowForm.{RowForm, form_of, form_over, shows}
-use Rattle.view_steps.specs.Steps.{family_of}
-use Rattle.view_steps.specs.Views.{World, View, base, over, Candidate, base_at, base_under, is_seen, item_in, shown}
-use Rattle.view_steps.proofs.ListLemmas.{both, filter-all, filter-map, filter-reverse, map-reverse}
+use Rattle.vocabulary.specs.declared.step_table.Family.{Family}
+use Rattle.vocabulary.specs.declared.step_table.Family.TheVariants.{Same, Changed, Turned, Keyed, Hidden, Cut, Grouped, Run, Pieces}
+use Rattle.vocabulary.specs.declared.steps.Step.{Step}
+use Rattle.view_steps.specs.Lanes.{Follows, IsFrom}
+use Rattle.view_laws.specs.Lanes.{turned_if}
+use Rattle.view_laws.specs.Places.{found_in}
+use Rattle.view_laws.specs.RowForm.{RowForm, form_of, form_over, shows}
+use Rattle.vocabulary.specs.Steps.{family_of}
+use Rattle.machine.specs.Bases.{World}
+use Rattle.machine.specs.Views.{View, base, base_under, both, over, shown}
+use Rattle.view_steps.specs.KnownViews.{is_known_view}
+use Rattle.machine.specs.Leaves.{leaf_at}
+use Rattle.machine.specs.Candidates.{Candidate, is_seen, item_in}
+use Rattle.view_steps.proofs.ListLemmas as lists
+use Rattle.view_steps.proofs.ListLemmas.{filter-all, filter-map, filter-reverse, map-reverse}
 use Rattle.view_steps.proofs.CountLemmas.{length_shown}
 
 -- ---- places passed
@@ -69,13 +75,18 @@ family_shows : (family : Family) (it : Step) (f : RowForm) → leaves_out family
 family_shows Same it f h all row = all row
 family_shows Changed it f h all row = all row
 family_shows Turned it f h all row = all row
+family_shows Keyed it f h all row = all row
 family_shows Hidden it f h all row = absurd (cc)
 family_shows Cut it f h all row = absurd (cc)
+family_shows Grouped it f h all row = absurd (cc)
+family_shows Run it f h all row = absurd (cc)
+family_shows Pieces it f h all row = absurd (cc)
 
 every_row : (v : View) → shows_all v ≡ true → (row : Item) → shows (form_of v) row ≡ true
-every_row (base b) h row = refl
+every_row (base l) h row = refl
+every_row (both word v u) h row = absurd (cc)
 every_row (over it v) h row =
-    let parts = both (not (leaves_out (family_of it))) (shows_all v) h in
+    let parts = lists.both (not (leaves_out (family_of it))) (shows_all v) h in
     family_shows (family_of it) it (form_of v) (kept (leaves_out (family_of it)) parts.0) (every_row v parts.1) row
   where
     kept : (b : Bool) → not b ≡ true → b ≡ false
@@ -83,8 +94,8 @@ every_row (over it v) h row =
     kept false e = refl
 
 -- as many items as rows, where no step leaves one out
-pub all_shown : (world : World) (v : View) → shows_all v ≡ true → length (shown world v) ≡ length (base_at world (base_under v)).rows
-all_shown world v h =
-    let rows : List Item = (base_at world (base_under v)).rows in
-    length_shown world v
+pub all_shown : (world : World) (v : View) → is_known_view v ≡ true → shows_all v ≡ true → length (shown world v) ≡ length (leaf_at world (base_under v)).rows
+all_shown world v known h =
+    let rows : List Item = (leaf_at world (base_under v)).rows in
+    length_shown world v known
     ∙ ap length (ap (λ (q : Item → Bool). filter q rows) (λ i row. every_row v h row i) ∙ filter-all rows)

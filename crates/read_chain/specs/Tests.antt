@@ -2,9 +2,9 @@
 use Rattle.std.specs.Prelude.{Bool, true}
 use Rattle.read_chain.specs.declared.finding.ItemTest.{ItemTest}
 use Rattle.read_chain.specs.declared.finding.ItemTest.TheVariants.{Any, Same, OfKey, OfValue}
-use Rattle.view_steps.specs.declared.items.Item.{Item}
-use Rattle.view_steps.specs.Answers.{has_key, has_value}
-use Rattle.view_steps.specs.Items.{same_item}
+use Rattle.vocabulary.specs.declared.items.Item.{Item}
+use Rattle.machine.specs.Shown.{has_key, has_value}
+use Rattle.vocabulary.specs.Items.{same_item}
 
 abbrev pub item_passes : ItemTest → Item → Bool
 item_passes Any item = true

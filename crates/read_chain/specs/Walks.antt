@@ -2,13 +2,14 @@
 use Rattle.std.specs.Prelude.{◌≡◌, ℕ, zero, suc, Bool, ◌<◌, List, [], ◌∷◌, length, map, filter, slice_get, drop, Option, None, Some, if◌then◌else◌}
 use Rattle.base_store.specs.Stored.{Stored, view_in}
 use Rattle.read_chain.specs.declared.walks.Walk.{Walk}
-use Rattle.view_steps.specs.declared.items.Item.{Item}
+use Rattle.vocabulary.specs.declared.items.Item.{Item}
 use Rattle.view_steps.specs.declared.lanes.Lane.TheVariants.{All}
-use Rattle.view_steps.specs.declared.places.Found.{Found}
+use Rattle.view_laws.specs.declared.places.Found.{Found}
 use Rattle.view_steps.specs.declared.places.Place.{Place}
-use Rattle.view_steps.specs.Lanes.{line, turned_if}
-use Rattle.view_steps.specs.Places.{found_in}
-use Rattle.view_steps.specs.Views.{candidates}
+use Rattle.view_steps.specs.Lanes.{line}
+use Rattle.view_laws.specs.Lanes.{turned_if}
+use Rattle.view_laws.specs.Places.{found_in}
+use Rattle.machine.specs.Views.{candidates}
 
 -- the place of the last of so many that were passed
 abbrev pub IsAt : List Place → ℕ → Option Place → Type 0

@@ -2,17 +2,20 @@
 ghost use Rattle.std.specs.Prelude.{◌≡◌, ◌<◌, ◌&&◌, length, IfNone, IfSome, [], find as first_that};
 ghost use Rattle.base_store.specs.Stored.{view_in};
 ghost use Rattle.read_chain.specs.Reads.{shown_in, StandsAt};
-ghost use Rattle.view_steps.specs.Answering.{first_hit};
-ghost use Rattle.view_steps.specs.Views.{candidates};
+ghost use Rattle.machine.specs.CallEdits.{first_hit};
+ghost use Rattle.machine.specs.Views.{candidates};
 
 use crate::walks::Walk;
-use base_store::{AnyRef, RowTest, Store};
+use base_rows::RowTest;
+use base_store::{AnyRef, Store};
 use elem::{Elem, Steps, same};
 use std::sync::ledger::Ledger;
-use view_steps::{Found, Item, Place, key_of, same_item, value_of};
+use view_laws::Found;
+use view_steps::Place;
+use vocabulary::{Item, key_of, same_item, value_of};
 
 /// A test of items.
-#[derive(Clone, Copy, Debug)]
+#[derive(Clone, Copy)]
 pub enum ItemTest {
     Any,
     /// It is this item.

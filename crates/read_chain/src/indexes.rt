@@ -2,9 +2,10 @@
 ghost use Rattle.std.specs.Prelude.{◌≡◌, ◌<◌, ◌≤◌, length, true};
 ghost use Rattle.base_store.specs.Stored.{view_in};
 ghost use Rattle.read_chain.specs.Reads.{shown_in, StandsAt};
-ghost use Rattle.view_steps.specs.Answering.{hit_at};
+ghost use Rattle.machine.specs.CallEdits.{hit_at};
 ghost use Rattle.view_steps.specs.Indexes as spec;
-ghost use Rattle.view_steps.specs.Views.{candidates, shape_at};
+ghost use Rattle.vocabulary.specs.Shapes.{is_list};
+ghost use Rattle.machine.specs.Views.{candidates, shape_at};
 
 use base_store::{AnyRef, Node, Store};
 use view_steps::{Place, gap_index_over, item_index_over};
@@ -42,7 +43,7 @@ pub fn gap_index(store: &Store, n: AnyRef, size: usize, i: usize) -> usize
 /// The place of item `i` of a list view.
 pub fn place_of_item(store: &Store, n: AnyRef, i: usize) -> Place
     requires node { n < length store.now.nodes }
-    requires list { spec.is_list (shape_at store.now.world (view_in store.now n)) ≡ true }
+    requires list { is_list (shape_at store.now.world (view_in store.now n)) ≡ true }
     requires index { i < length (shown_in store.now n) }
     ensures { StandsAt store.now.world (view_in store.now n) result (hit_at i (candidates store.now.world (view_in store.now n))) }
 {

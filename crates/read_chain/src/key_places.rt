@@ -2,19 +2,21 @@
 ghost use Rattle.std.specs.Prelude.{◌≡◌, ◌<◌, ◌≤◌, ◌+◌, length, true, IfNone, IfSome, [], option_map};
 ghost use Rattle.base_store.specs.Stored.{view_in};
 ghost use Rattle.read_chain.specs.Reads.{shown_in, StandsAt};
-ghost use Rattle.view_steps.specs.Answering.{first_hit};
-ghost use Rattle.view_steps.specs.Answers.{has_key, value_shown};
-ghost use Rattle.view_steps.specs.Items as items;
-ghost use Rattle.view_steps.specs.Shapes.{is_keyed};
-ghost use Rattle.view_steps.specs.Views.{candidates, shape_at};
-ghost use Rattle.view_steps.specs.declared.items.Item as spec;
+ghost use Rattle.machine.specs.CallEdits.{first_hit};
+ghost use Rattle.machine.specs.Shown.{has_key, value_shown};
+ghost use Rattle.vocabulary.specs.Items as items;
+ghost use Rattle.vocabulary.specs.Shapes.{is_keyed};
+ghost use Rattle.machine.specs.Views.{candidates, shape_at};
+ghost use Rattle.vocabulary.specs.declared.items.Item as spec;
 
 use crate::finding::{ItemTest, find_place, is_hit};
 use crate::look_ups::{goes_by_key, look_up};
-use base_store::{AnyRef, RowTest, Store};
+use base_rows::RowTest;
+use base_store::{AnyRef, Store};
 use elem::{Elem, Steps};
 use std::sync::ledger::Ledger;
-use view_steps::{Item, Place, key_of, value_of};
+use view_steps::Place;
+use vocabulary::{Item, key_of, value_of};
 
 /// The place of the first item that is the same. In a set or a set of entries it asks the base once at most.
 pub fn place_of<L: Ledger>(

@@ -1,19 +1,24 @@
 //! Looking up by key: one call of the base.
 ghost use Rattle.std.specs.Prelude.{◌≡◌, ◌<◌, ◌≤◌, ◌+◌, length, true, filter, map, option_to_list, IfNone, IfSome, IsSome, Some};
 ghost use Rattle.base_store.specs.Stored.{view_in};
-ghost use Rattle.view_steps.specs.Answers.{has_key};
+ghost use Rattle.machine.specs.Shown.{has_key};
 ghost use Rattle.read_chain.specs.Reads.{shown_in};
 ghost use Rattle.view_steps.specs.Lanes as lanes;
 ghost use Rattle.view_steps.specs.Lanes.{IsStraight};
-ghost use Rattle.view_steps.specs.Places.{found_in, HasKeys};
-ghost use Rattle.view_steps.specs.Shapes.{is_keyed};
-ghost use Rattle.view_steps.specs.Views.{base_at, base_under, candidates, shape_at};
+ghost use Rattle.view_laws.specs.Places.{found_in};
+ghost use Rattle.view_steps.specs.Places.{HasKeys};
+ghost use Rattle.vocabulary.specs.Shapes.{is_keyed};
+ghost use Rattle.machine.specs.Leaves.{leaf_at};
+ghost use Rattle.machine.specs.Views.{base_under, candidates, shape_at};
+ghost use Rattle.view_steps.specs.KnownViews.{is_known_view};
 ghost use Rattle.view_steps.specs.declared.lanes.Lane.TheVariants.{Nothing, OfKey};
 
 use base_store::{AnyRef, Node, Store};
 use elem::{Elem, Steps};
 use std::sync::ledger::Ledger;
-use view_steps::{Found, Item, Lane, Shape, Step, found_over, narrow};
+use view_laws::Found;
+use view_steps::{Lane, found_over, narrow};
+use vocabulary::{Item, RowSort, Shape, Step};
 
 /// What a view of a set, a map or entries has of a key, shown or hidden. It asks the base once at most.
 pub fn look_up<L: Ledger>(store: &Store, n: AnyRef, k: &Elem, steps: &mut Steps<L>) -> Option<Found>
@@ -30,7 +35,8 @@ pub fn look_up<L: Ledger>(store: &Store, n: AnyRef, k: &Elem, steps: &mut Steps<
 fn find_key<L: Ledger>(store: &Store, n: AnyRef, k: &Elem, steps: &mut Steps<L>) -> Option<Found>
     requires node { n < length store.now.nodes }
     requires straight { IsStraight store.now.world (view_in store.now n) (OfKey k.now) }
-    requires keys { HasKeys (base_at store.now.world (base_under (view_in store.now n))) }
+    requires known { is_known_view (view_in store.now n) ≡ true }
+    requires keys { HasKeys (leaf_at store.now.world (base_under (view_in store.now n))) }
     ensures found { filter (λ d. has_key k.now d.item) (map found_in (candidates store.now.world (view_in store.now n))) ≡ option_to_list result }
     ensures step { steps.new ≤ steps.old + 1 }
 {
@@ -88,6 +94,10 @@ pub fn goes_by_key(shape: Shape) -> bool
 {
     matches!(
         shape,
-        Shape::Set { .. } | Shape::Rows(_) | Shape::Map { .. }
+        Shape::Set { .. }
+            | Shape::Rows(RowSort::Entry | RowSort::Group | RowSort::Counted)
+            | Shape::Map { .. }
+            | Shape::Groups(_)
+            | Shape::BiMap
     )
 }

@@ -1,6 +1,7 @@
 //! From place to place of a view: the recursion to the base, by which all walks and look-ups go.
-ghost use Rattle.std.specs.Prelude.{◌≡◌, ◌<◌, ◌≤◌, ◌+◌, Some, length};
+ghost use Rattle.std.specs.Prelude.{◌≡◌, ◌<◌, ◌≤◌, ◌+◌, Some, length, true};
 ghost use Rattle.base_store.specs.Stored.{view_in};
+ghost use Rattle.view_steps.specs.KnownViews.{is_known_view};
 ghost use Rattle.view_steps.specs.Places.{found_by_steps};
 ghost use Rattle.view_steps.specs.Lanes.{Follows, IsFrom, IsStraight, line};
 ghost use Rattle.view_steps.specs.Places as spec;
@@ -8,7 +9,9 @@ ghost use Rattle.view_steps.specs.Places as spec;
 use base_store::{AnyRef, Node, Store};
 use elem::Steps;
 use std::sync::ledger::Ledger;
-use view_steps::{Found, Item, Lane, Place, flipped, found_over, narrow};
+use view_laws::Found;
+use view_steps::{Lane, Place, flipped, found_over, narrow};
+use vocabulary::Item;
 
 /// The place that follows another in a lane of a view, or the first one.
 pub(crate) fn next_place<L: Ledger>(
@@ -20,6 +23,7 @@ pub(crate) fn next_place<L: Ledger>(
     steps: &mut Steps<L>,
 ) -> Option<Place>
     requires node { n < length store.now.nodes }
+    requires known { is_known_view (view_in store.now n) ≡ true }
     requires straight { IsStraight store.now.world (view_in store.now n) lane.now }
     requires from { IsFrom (line store.now.world (view_in store.now n) lane.now back) from }
     ensures next { Follows (line store.now.world (view_in store.now n) lane.now back) from result }

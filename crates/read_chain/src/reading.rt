@@ -2,15 +2,18 @@
 ghost use Rattle.std.specs.Prelude.{◌≡◌, ◌<◌, ◌≤◌, ◌+◌, length, true, nat_lt, Ok, ◌≢◌, Err};
 ghost use Rattle.base_store.specs.Stored.{view_in};
 ghost use Rattle.read_chain.specs.Reads.{element_told, is_look_up, shown_in, told};
-ghost use Rattle.view_steps.specs.Answering.{index_refusal, unless_refused};
-ghost use Rattle.view_steps.specs.Answers as answers;
-ghost use Rattle.view_steps.specs.Calls as spec;
-ghost use Rattle.view_steps.specs.Indexes.{is_list};
-ghost use Rattle.view_steps.specs.Shapes.{is_keyed};
-ghost use Rattle.view_steps.specs.Views.{shape_at};
-ghost use Rattle.view_steps.specs.declared.calls.Call.TheVariants as calls;
-ghost use Rattle.view_steps.specs.declared.refusals.Refusal.TheVariants.{NoMemory};
-ghost use Rattle.view_steps.specs.declared.steps.Needs.TheVariants as needs;
+ghost use Rattle.machine.specs.CallRefusals.{index_refusal};
+ghost use Rattle.machine.specs.Answering.{unless_refused};
+ghost use Rattle.machine.specs.Answers as answers;
+ghost use Rattle.vocabulary.specs.Fits as spec;
+ghost use Rattle.vocabulary.specs.Known.{form_of_call, is_known_ask, is_known_call, is_known_element};
+ghost use Rattle.vocabulary.specs.Needs.{needs_of};
+ghost use Rattle.vocabulary.specs.Shapes.{is_keyed, is_list};
+ghost use Rattle.machine.specs.Shown.{item_shown};
+ghost use Rattle.machine.specs.Views.{shape_at};
+ghost use Rattle.vocabulary.specs.declared.calls.Call.TheVariants as calls;
+ghost use Rattle.vocabulary.specs.declared.refusals.Refusal.TheVariants.{NoMemory};
+ghost use Rattle.vocabulary.specs.declared.steps.Needs.TheVariants as needs;
 
 use crate::reads::{
     contains, first, has_key, has_value, index_of, is_empty, item_at, last, map_get, size,
@@ -18,9 +21,9 @@ use crate::reads::{
 use base_store::{AnyRef, Store};
 use elem::{Elem, Steps};
 use std::sync::ledger::Ledger;
-use view_steps::{Answer, Ask, Call, Item, OnElement, OnPair, Refusal, key_of};
+use vocabulary::{Answer, Ask, Call, Item, OnElement, OnPair, Refusal, key_of};
 
-/// Answers a call that only reads.
+/// Answers a known call that only reads.
 pub fn read<L: Ledger>(
     store: &Store,
     n: AnyRef,
@@ -29,7 +32,8 @@ pub fn read<L: Ledger>(
 ) -> Result<Answer, Refusal>
     requires node { n < length store.now.nodes }
     requires fits { spec.fits (shape_at store.now.world (view_in store.now n)) call.now ≡ true }
-    requires reads { spec.needs_of call.now ≡ needs.Nothing }
+    requires known { is_known_call (form_of_call call.now) ≡ true }
+    requires reads { needs_of call.now ≡ needs.Nothing }
     ensures answer { result ≡ told store.now.world (view_in store.now n) call.now }
     ensures memory { result ≢ Err NoMemory }
     ensures steps { is_look_up call.now ≡ true → is_keyed (shape_at store.now.world (view_in store.now n)) ≡ true → steps.new ≤ steps.old + 1 }
@@ -44,7 +48,7 @@ pub fn read<L: Ledger>(
             &Item::Entry(*k, *v),
             steps,
         ))),
-        Call::Pair(OnPair::Put, _, _) | Call::Indexed(_, _, _) => unreachable!(),
+        _ => unreachable!(),
     }
 }
 
@@ -55,15 +59,18 @@ fn read_ask<L: Ledger>(
     word: Ask,
     steps: &mut Steps<L>,
 ) -> Result<Answer, Refusal>
-    requires { n < length store.now.nodes }
+    requires node { n < length store.now.nodes }
+    requires known { is_known_ask word ≡ true }
     ensures { result ≡ told store.now.world (view_in store.now n) (calls.Ask word) }
 {
+    let _base = store.base_of(n);
     match word {
         Ask::Size => Ok(Answer::Number(size(store, n, steps))),
         Ask::IsEmpty => Ok(Answer::Truth(is_empty(store, n, steps))),
         Ask::First | Ask::FirstKey => tell_element(first(store, n, steps)),
         Ask::Last | Ask::LastKey => tell_element(last(store, n, steps)),
         Ask::Clear => Ok(Answer::Done),
+        _ => unreachable!(),
     }
 }
 
@@ -87,17 +94,19 @@ fn read_element<L: Ledger>(
 ) -> Answer
     requires node { n < length store.now.nodes }
     requires fits { spec.fits_element (shape_at store.now.world (view_in store.now n)) word ≡ true }
-    requires reads { spec.needs_of (calls.Element word x.now) ≡ needs.Nothing }
+    requires known { is_known_element word ≡ true }
+    requires reads { needs_of (calls.Element word x.now) ≡ needs.Nothing }
     ensures answer { result ≡ answers.element_answer (shape_at store.now.world (view_in store.now n)) word x.now (shown_in store.now n) }
     ensures steps { is_look_up (calls.Element word x.now) ≡ true → is_keyed (shape_at store.now.world (view_in store.now n)) ≡ true → steps.new ≤ steps.old + 1 }
 {
+    let _base = store.base_of(n);
     match word {
         OnElement::Contains => Answer::Truth(contains(store, n, &Item::One(*x), steps)),
         OnElement::IndexOf => Answer::Index(index_of(store, n, &Item::One(*x), steps)),
         OnElement::ValueOf => Answer::Optional(map_get(store, n, x, steps)),
         OnElement::ContainsKey => Answer::Truth(has_key(store, n, x, steps)),
         OnElement::ContainsValue => Answer::Truth(has_value(store, n, x, steps)),
-        OnElement::Add | OnElement::Remove | OnElement::RemoveKey => unreachable!(),
+        _ => unreachable!(),
     }
 }
 
@@ -110,7 +119,7 @@ fn read_item<L: Ledger>(
 ) -> Result<Answer, Refusal>
     requires node { n < length store.now.nodes }
     requires list { is_list (shape_at store.now.world (view_in store.now n)) ≡ true }
-    ensures { result ≡ unless_refused (index_refusal (λ k. nat_lt k (length (shown_in store.now n))) i) (Ok (answers.element_of (answers.item_shown (shown_in store.now n) i))) }
+    ensures { result ≡ unless_refused (index_refusal (λ k. nat_lt k (length (shown_in store.now n))) i) (Ok (answers.element_of (item_shown (shown_in store.now n) i))) }
 {
     match i {
         Some(i) => match item_at(store, n, i, steps) {

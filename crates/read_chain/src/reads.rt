@@ -1,14 +1,14 @@
 //! What a view answers from what it shows.
-ghost use Rattle.std.specs.Prelude.{◌≡◌, ◌<◌, ◌≤◌, ◌+◌, length, slice_get, true};
+ghost use Rattle.std.specs.Prelude.{◌≡◌, ◌<◌, ◌≤◌, ◌+◌, length, not, slice_get, true};
 ghost use Rattle.std.specs.List.{list_all, list_any, position};
 ghost use Rattle.base_store.specs.Stored.{view_in};
 ghost use Rattle.read_chain.specs.Reads as reads;
 ghost use Rattle.read_chain.specs.Reads.{shown_in};
-ghost use Rattle.view_steps.specs.Answers as spec;
-ghost use Rattle.view_steps.specs.Items.{same_item as same_items};
-ghost use Rattle.view_steps.specs.Indexes.{is_list};
-ghost use Rattle.view_steps.specs.Shapes.{is_keyed};
-ghost use Rattle.view_steps.specs.Views.{shape_at};
+ghost use Rattle.machine.specs.Shown as found;
+ghost use Rattle.vocabulary.specs.Items.{same_item as same_items};
+ghost use Rattle.vocabulary.specs.Shapes.{is_list};
+ghost use Rattle.vocabulary.specs.Shapes.{is_keyed};
+ghost use Rattle.machine.specs.Views.{shape_at};
 
 use crate::finding::{ItemTest, find};
 use crate::indexes::item_index;
@@ -18,7 +18,18 @@ use crate::walks::Walk;
 use base_store::{AnyRef, Node, Store};
 use elem::{Elem, Steps};
 use std::sync::ledger::Ledger;
-use view_steps::{Family, Item, Place, family_of, key_of, same_item, value_of};
+use view_steps::Place;
+use vocabulary::{Family, Item, family_of, key_of, same_item, value_of};
+
+/// Whether the steps of a family leave no item out.
+fn keeps_all(family: Family) -> bool
+    ensures { result ≡ not (reads.leaves_out family) }
+{
+    matches!(
+        family,
+        Family::Same | Family::Changed | Family::Turned | Family::Keyed
+    )
+}
 
 /// Whether no step of a view leaves an item out.
 fn shows_all(store: &Store, n: AnyRef) -> bool
@@ -27,9 +38,7 @@ fn shows_all(store: &Store, n: AnyRef) -> bool
 {
     match store.node(n) {
         Node::Base(_) => true,
-        Node::Step { step, parent } => {
-            !matches!(family_of(&step), Family::Hidden | Family::Cut) && shows_all(store, parent)
-        }
+        Node::Step { step, parent } => { keeps_all(family_of(&step)) && shows_all(store, parent) }
     }
 }
 
@@ -53,7 +62,7 @@ pub fn size<L: Ledger>(store: &Store, n: AnyRef, steps: &mut Steps<L>) -> usize
 /// Whether a view shows nothing.
 pub fn is_empty<L: Ledger>(store: &Store, n: AnyRef, steps: &mut Steps<L>) -> bool
     requires { n < length store.now.nodes }
-    ensures { result ≡ spec.is_empty (shown_in store.now n) }
+    ensures { result ≡ found.is_empty (shown_in store.now n) }
 {
     first(store, n, steps).is_none()
 }
@@ -61,7 +70,7 @@ pub fn is_empty<L: Ledger>(store: &Store, n: AnyRef, steps: &mut Steps<L>) -> bo
 /// Whether a view shows an item. A set or a set of entries asks its base once at most.
 pub fn contains<L: Ledger>(store: &Store, n: AnyRef, item: &Item, steps: &mut Steps<L>) -> bool
     requires { n < length store.now.nodes }
-    ensures shown { result ≡ spec.is_shown (shown_in store.now n) item.now }
+    ensures shown { result ≡ found.is_shown (shown_in store.now n) item.now }
     ensures step { is_keyed (shape_at store.now.world (view_in store.now n)) ≡ true → steps.new ≤ steps.old + 1 }
 {
     if goes_by_key(store.shape(n)) {
@@ -83,7 +92,7 @@ pub fn contains_all<L: Ledger>(
 ) -> bool
     requires node { n < length store.now.nodes }
     requires other { other < length store.now.nodes }
-    ensures { result ≡ list_all (spec.is_shown (shown_in store.now n)) (shown_in store.now other) }
+    ensures { result ≡ list_all (found.is_shown (shown_in store.now n)) (shown_in store.now other) }
 {
     let mut walk = Walk::over(store, other, false);
     while let Some(item) = walk.next(store, steps) {
@@ -137,7 +146,7 @@ pub fn index_of<L: Ledger>(
 pub fn map_get<L: Ledger>(store: &Store, n: AnyRef, k: &Elem, steps: &mut Steps<L>) -> Option<Elem>
     requires node { n < length store.now.nodes }
     requires keyed { is_keyed (shape_at store.now.world (view_in store.now n)) ≡ true }
-    ensures value { result ≡ spec.value_shown (shown_in store.now n) k.now }
+    ensures value { result ≡ found.value_shown (shown_in store.now n) k.now }
     ensures step { steps.new ≤ steps.old + 1 }
 {
     match shown_at_key(store, n, k, steps) {
@@ -150,7 +159,7 @@ pub fn map_get<L: Ledger>(store: &Store, n: AnyRef, k: &Elem, steps: &mut Steps<
 pub fn has_key<L: Ledger>(store: &Store, n: AnyRef, k: &Elem, steps: &mut Steps<L>) -> bool
     requires node { n < length store.now.nodes }
     requires keyed { is_keyed (shape_at store.now.world (view_in store.now n)) ≡ true }
-    ensures key { result ≡ list_any (spec.has_key k.now) (shown_in store.now n) }
+    ensures key { result ≡ list_any (found.has_key k.now) (shown_in store.now n) }
     ensures step { steps.new ≤ steps.old + 1 }
 {
     shown_at_key(store, n, k, steps).is_some()
@@ -159,7 +168,7 @@ pub fn has_key<L: Ledger>(store: &Store, n: AnyRef, k: &Elem, steps: &mut Steps<
 /// Whether a value is shown.
 pub fn has_value<L: Ledger>(store: &Store, n: AnyRef, v: &Elem, steps: &mut Steps<L>) -> bool
     requires { n < length store.now.nodes }
-    ensures { result ≡ list_any (spec.has_value v.now) (shown_in store.now n) }
+    ensures { result ≡ list_any (found.has_value v.now) (shown_in store.now n) }
 {
     find(store, n, &ItemTest::OfValue(*v), steps).is_some()
 }
@@ -167,7 +176,7 @@ pub fn has_value<L: Ledger>(store: &Store, n: AnyRef, v: &Elem, steps: &mut Step
 /// The first item shown.
 pub fn first<L: Ledger>(store: &Store, n: AnyRef, steps: &mut Steps<L>) -> Option<Item>
     requires { n < length store.now.nodes }
-    ensures { result ≡ spec.first_shown (shown_in store.now n) }
+    ensures { result ≡ found.first_shown (shown_in store.now n) }
 {
     let mut walk = Walk::over(store, n, false);
     walk.next(store, steps)
@@ -176,7 +185,7 @@ pub fn first<L: Ledger>(store: &Store, n: AnyRef, steps: &mut Steps<L>) -> Optio
 /// The last item shown.
 pub fn last<L: Ledger>(store: &Store, n: AnyRef, steps: &mut Steps<L>) -> Option<Item>
     requires { n < length store.now.nodes }
-    ensures { result ≡ spec.last_shown (shown_in store.now n) }
+    ensures { result ≡ found.last_shown (shown_in store.now n) }
 {
     let mut walk = Walk::over(store, n, true);
     walk.next(store, steps)

@@ -9,7 +9,8 @@ use crate::places::{found_at, next_place};
 use base_store::{AnyRef, Store};
 use elem::Steps;
 use std::sync::ledger::Ledger;
-use view_steps::{Item, Lane, Place};
+use view_steps::{Lane, Place};
+use vocabulary::Item;
 
 /// The place of a view's first candidate, shown or hidden. There is none where the view has no candidate.
 pub fn walk_first<L: Ledger>(store: &Store, n: AnyRef, steps: &mut Steps<L>) -> Option<Place>

@@ -2,18 +2,20 @@
 ghost use Rattle.std.specs.Prelude.{◌≡◌, ◌<◌, ◌+◌, drop, length, IfSome, None};
 ghost use Rattle.base_store.specs.Stored.{view_in};
 ghost use Rattle.read_chain.specs.Walks.{IsWalk, TakesFirst, found_along, to_come};
-ghost use Rattle.view_steps.specs.Lanes.{turned_if};
-ghost use Rattle.view_steps.specs.Views.{shown};
+ghost use Rattle.view_laws.specs.Lanes.{turned_if};
+ghost use Rattle.machine.specs.Views.{shown};
 
 use crate::places::{found_at, next_place};
 use base_store::{AnyRef, Store};
 use elem::Steps;
 use std::sync::ledger::Ledger;
-use view_steps::{Found, Item, Lane, Place};
+use view_laws::Found;
+use view_steps::{Lane, Place};
+use vocabulary::Item;
 
 /// A walk over what a view shows, from its front or from its back. It keeps the place that it passed last, and how many
 /// it passed; those of hidden items count.
-#[derive(Clone, Copy, Debug)]
+#[derive(Clone, Copy)]
 pub struct Walk {
     node: AnyRef,
     back: bool,

@@ -4,32 +4,36 @@ use Rattle.std.specs.Prelude.{codes}
 use Rattle.std.specs.Map.{lookup}
 use Rattle.std.specs.Option.{option_map}
 use Rattle.std.proofs.lemmas.List.{take-append-drop}
-use Rattle.view_steps.specs.declared.refusals.Refusal.{Refusal}
-use Rattle.view_steps.specs.declared.refusals.Refusal.TheVariants as refusal
-use Rattle.view_steps.specs.Refusals.{name_of}
-use Rattle.view_steps.specs.Limits.{ChangesUpTo}
-use Rattle.view_steps.specs.Views.{World, View}
+use Rattle.vocabulary.specs.declared.refusals.Refusal.{Refusal}
+use Rattle.vocabulary.specs.declared.refusals.Refusal.TheVariants as refusal
+use Rattle.vocabulary.specs.Refusals.{name_of}
+use Rattle.machine.specs.RowCounts.{ChangesUpTo}
+use Rattle.machine.specs.Bases.{World}
+use Rattle.machine.specs.Views.{shape_at}
 use Rattle.base_store.specs.declared.store.Made.{Made}
-use Rattle.base_store.specs.Nodes.{view_at}
 use Rattle.base_store.specs.Stored.{Stored, view_in, without_temporary}
 use Rattle.session.specs.declared.faults.ExecFault.{ExecFault}
 use Rattle.session.specs.declared.following.End.{End}
 use Rattle.session.specs.declared.following.End.TheVariants as end
-use Rattle.session.specs.declared.typing.Purpose.TheVariants as purpose
 use Rattle.session.specs.Binding.{Answers, IsFull, KeptNode, KeptNothing, Keeps}
 use Rattle.session.specs.Coming.{seen_as}
-use Rattle.session.specs.Environment.{IsSettled, NamesWithin, named}
+use Rattle.session.specs.Environment.{IsSettled, NamesWithin, bound_at, named}
 use Rattle.session.specs.Executing.{Executed}
 use Rattle.session.specs.Following.{IsEnd, end_in, node_of, target_in}
-use Rattle.session.specs.Machine.{let_concluded, let_of, made_name}
-use Rattle.session.specs.Outcomes.{Outcome, refused, refused_late}
-use Rattle.session.specs.Parts.{Part}
+use Rattle.session.specs.KnownShapes.{is_known_shape}
+use Rattle.session.specs.Targets.{let_concluded}
 use Rattle.session.specs.Replying.{Refuses, Said}
-use Rattle.session.specs.State.{State, bound, view_named}
+use Rattle.machine.specs.Languages.{known}
+use Rattle.machine.specs.Naming.{binding, let_of}
+use Rattle.machine.specs.Outcomes.{Outcome, refused_by, refused_late}
+use Rattle.machine.specs.Parts.{Part}
+use Rattle.machine.specs.State.{Bound, Names, State, bound, named as bound_to}
+use Rattle.vocabulary.specs.declared.lines.Purpose.TheVariants as purpose
 use Rattle.session.proofs.EvalLemmas.{take_whole}
 use Rattle.session.proofs.FollowLemmas.{named_more}
-use Rattle.session.proofs.NameLemmas.{bound_named, executed_unchanged, handles-memory, named_view, same_text, within_more, within_room, without_room}
+use Rattle.session.proofs.NameLemmas.{bound_named, executed_unchanged, handles-memory, named_bound, same_text, within_more, within_room, without_room}
 use Rattle.session.proofs.CallLemmas.{calm_on, does_said}
+use Rattle.session.proofs.LineLemmas.{let_leads}
 use Rattle.session.proofs.ReplyLemmas.{said_refusal}
 use Rattle.session.proofs.SessionLemmas.{executed_silent}
 
@@ -92,7 +96,7 @@ module _ (s led now : Stored) (names names' : List (List ℕ × ℕ)) (name : Li
 
   module _ {q : Result (Unit {0}) ExecFault} {t u : Option (List ℕ)} {f g : ℕ} where
     -- the name is bound
-    pub executed_bound : (e : End) → Led s led names (Ok e) → KeptNode led now names names' name (node_of e) (max 1 steps) → Said q t u f g (codes "ok" ++ 10 ∷ []) → Executed q state_before state_now (made_name state_before name steps (view_in led (node_of e))) t u f g
+    pub executed_bound : (e : End) → Led s led names (Ok e) → KeptNode led now names names' name (node_of e) (max 1 steps) → Said q t u f g (codes "ok" ++ 10 ∷ []) → Executed q state_before state_now (binding state_before s.world name (bound_at led.nodes (node_of e)) (max 1 steps)) t u f g
     executed_bound e h k said =
         subst (λ (o : Outcome). Executed q state_before state_now o t u f g) (sym (within_room state_before (max 1 steps) (record { reply = Some (codes "ok"); after = state_after; memory = true }) (omega (arith, k.room, handles_same s led names (Ok e) h)))) (record {
           does = does_said q t u state_before state_now state_after (codes "ok") true said.memory now_is said.wrote;
@@ -102,15 +106,15 @@ module _ (s led now : Stored) (names names' : List (List ℕ × ℕ)) (name : Li
         })
       where
         state_after : State
-        state_after = record { bases = s.world; names = bound (named s.nodes names) name (view_in led (node_of e)); handles = s.handles + max 1 steps }
+        state_after = record { bases = s.world; names = bound (named s.nodes names) name (bound_at led.nodes (node_of e)); handles = s.handles + max 1 steps }
 
         world_now : now.world ≡ s.world
         world_now = ap (λ (x : Stored). x.world) k.kept ∙ h.world
 
-        names_now : named now.nodes names' ≡ bound (named s.nodes names) name (view_in led (node_of e))
+        names_now : named now.nodes names' ≡ bound (named s.nodes names) name (bound_at led.nodes (node_of e))
         names_now =
             ap (λ (ns : List Made). named ns names') (ap (λ (x : Stored). x.nodes) k.kept) ∙ ap (λ (ns : List (List ℕ × ℕ)). named led.nodes ns) k.entered ∙ bound_named led.nodes names name (node_of e)
-            ∙ ap (λ (known : List (List ℕ × View)). bound known name (view_at led.nodes (node_of e))) (names_same s led names (Ok e) h)
+            ∙ ap (λ (ns : Names). bound ns name (bound_at led.nodes (node_of e))) (names_same s led names (Ok e) h)
 
         now_is : state_now ≡ state_after
         now_is = λ i. record { bases = world_now i; names = names_now i; handles = (ap (λ (x : Stored). x.handles) k.kept ∙ ap (λ (n : ℕ). n + max 1 steps) (handles_same s led names (Ok e) h)) i }
@@ -124,12 +128,12 @@ module _ (s led now : Stored) (names names' : List (List ℕ × ℕ)) (name : Li
         now_is : state_now ≡ state_before
         now_is = ap (λ (x : Stored). seen_as x (named x.nodes names')) same ∙ ap (λ (ns : List (List ℕ × ℕ)). seen_as s (named s.nodes ns)) unnamed
 
-    pub executed_unkept : (e : End) (why : Refusal) → Led s led names (Ok e) → KeptNothing led now names names' → IsFull led (max 1 steps) why → Refuses why q t u f g → Executed q state_before state_now (made_name state_before name steps (view_in led (node_of e))) t u f g
+    pub executed_unkept : (e : End) (why : Refusal) → Led s led names (Ok e) → KeptNothing led now names names' → IsFull led (max 1 steps) why → Refuses why q t u f g → Executed q state_before state_now (binding state_before s.world name (bound_at led.nodes (node_of e)) (max 1 steps)) t u f g
     executed_unkept e why h k (inl full) said =
-        executed_refused (made_name state_before name steps (view_in led (node_of e))) why true (as_before s led names (Ok e) h now k.dropped) k.same (λ m. absurd (let no : refusal.Limit ≡ refusal.NoMemory = sym full.0 ∙ m in cc))
+        executed_refused (binding state_before s.world name (bound_at led.nodes (node_of e)) (max 1 steps)) why true (as_before s led names (Ok e) h now k.dropped) k.same (λ m. absurd (let no : refusal.Limit ≡ refusal.NoMemory = sym full.0 ∙ m in cc))
         (ap (refused_late state_before) full.0 ∙ sym (without_room state_before (max 1 steps) _ (omega (arith, full.1, handles_same s led names (Ok e) h)))) said
     executed_unkept e why h k (inr memory) said =
-        executed_silent s now names names' (made_name state_before name steps (view_in led (node_of e))) (as_before s led names (Ok e) h now k.dropped) k.same (handles-memory state_before (max 1 steps) _ refl) (subst (λ (x : Refusal). Refuses x q t u f g) memory said)
+        executed_silent s now names names' (binding state_before s.world name (bound_at led.nodes (node_of e)) (max 1 steps)) (as_before s led names (Ok e) h now k.dropped) k.same (handles-memory state_before (max 1 steps) _ refl) (subst (λ (x : Refusal). Refuses x q t u f g) memory said)
 
     -- the outcome, by what was kept and what was said
     pub executed_kept : (r : Result (Unit {0}) Refusal) (end : Result End Refusal) → Led s led names end → Keeps r end led now names names' name steps → Answers r q t u f g → Executed q state_before state_now (let_concluded state_before name steps (Ok (end_in led end))) t u f g
@@ -141,14 +145,16 @@ module _ (s led now : Stored) (names names' : List (List ℕ × ℕ)) (name : Li
     executed_kept (Err why) (Ok (end.Call n call)) h k said = executed_unkept (end.Call n call) why h k.0 k.1 said
     executed_kept (Err why) (Ok (end.With n word other)) h k said = executed_unkept (end.With n word other) why h k.0 k.1 said
     executed_kept (Err why) (Err because) h k said =
-        executed_refused (refused state_before because) why false (as_before s led names (Err because) h now k.0.dropped) k.0.same (λ m. h.ends (sym k.1 ∙ m)) (ap (refused state_before) k.1) said
+        executed_refused (refused_by state_before because) why false (as_before s led names (Err because) h now k.0.dropped) k.0.same (λ m. h.ends (sym k.1 ∙ m)) (ap (refused_by state_before) k.1) said
 
-    pub executed_let : (headname : List ℕ) (head : ℕ) (parts : List Part) (r : Result (Unit {0}) Refusal) (end : Result End Refusal) → steps ≡ length parts → lookup (same_text headname) names ≡ Some head → Led s led names end
-        → target_in s names purpose.Name head parts ≡ Ok (end_in led end) → Keeps r end led now names names' name steps → Answers r q t u f g
-        → Executed q state_before state_now (let_of state_before name (view_named state_before.names headname) parts) t u f g
-    executed_let headname head parts r end count found h leads k said = subst (λ (o : Outcome). Executed q state_before state_now o t u f g) outcome (executed_kept r end h k said)
+    pub executed_let : (headname : List ℕ) (head : ℕ) (parts : List Part) (r : Result (Unit {0}) Refusal) (end : Result End Refusal) → steps ≡ length parts → lookup (same_text headname) names ≡ Some head
+        → is_known_shape (shape_at s.world (view_in s head)) ≡ true → Led s led names end
+        → target_in s s.handles names purpose.Name head parts ≡ Ok (end_in led end) → Keeps r end led now names names' name steps → Answers r q t u f g
+        → Executed q state_before state_now (let_of known state_before name (bound_to state_before.names headname) parts) t u f g
+    executed_let headname head parts r end count found shape h reached k said = subst (λ (o : Outcome). Executed q state_before state_now o t u f g) outcome (executed_kept r end h k said)
       where
-        outcome : let_concluded state_before name steps (Ok (end_in led end)) ≡ let_of state_before name (view_named state_before.names headname) parts
+        outcome : let_concluded state_before name steps (Ok (end_in led end)) ≡ let_of known state_before name (bound_to state_before.names headname) parts
         outcome =
-            ap (λ (n : ℕ). let_concluded state_before name n (Ok (end_in led end))) count ∙ ap (let_concluded state_before name (length parts)) (sym leads)
-            ∙ ap (λ (v : Option View). let_of state_before name v parts) (sym (named_view s.nodes names headname ∙ ap (option_map (view_at s.nodes)) found))
+            ap (λ (n : ℕ). let_concluded state_before name n (Ok (end_in led end))) count ∙ ap (let_concluded state_before name (length parts)) (sym reached)
+            ∙ let_leads state_before name (view_in s head) parts shape
+            ∙ ap (λ (o : Option Bound). let_of known state_before name o parts) (sym (named_bound s.nodes names headname ∙ ap (option_map (bound_at s.nodes)) found))

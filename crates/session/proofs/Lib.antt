@@ -1,3 +1,4 @@
+pub mod KnownLemmas
 pub mod TextLemmas
 pub mod ReplyLemmas
 pub mod CallLemmas
@@ -6,5 +7,6 @@ pub mod EvalLemmas
 pub mod FollowLemmas
 pub mod NameLemmas
 pub mod TypingLemmas
+pub mod LineLemmas
 pub mod SessionLemmas
 pub mod BindLemmas

@@ -1,5 +1,5 @@
 -- The names of an environment: what a look-up finds, and what a new base and its name leave.
-use Rattle.std.proofs.Common.{◌≡◌, ℕ, ◌+◌, ◌<◌, ◌≤◌, Bool, true, false, List, [], ◌∷◌, ◌++◌, length, take, Option, Some, Result, Ok, Err, OnOk, cond, nat_eq, nat_lt, refl, sym, ◌∙◌, ap, subst, arith, length-append}
+use Rattle.std.proofs.Common.{◌≡◌, ℕ, ◌+◌, ◌-◌, ◌<◌, ◌≤◌, Bool, true, false, List, [], ◌∷◌, ◌++◌, length, take, Option, Some, Result, Ok, Err, OnOk, cond, nat_eq, nat_lt, refl, sym, ◌∙◌, ap, subst, arith, length-append}
 use Rattle.std.specs.Prelude.{codes}
 use Rattle.std.specs.Cmp.Lexicographic.{pointwise}
 use Rattle.std.specs.Map.{lookup}
@@ -7,24 +7,25 @@ use Rattle.std.specs.Option.{option_map}
 use Rattle.std.specs.Result.{is_err, IsOk}
 use Rattle.indexmap.specs.IndexMap.{insert_entry}
 use Rattle.std.proofs.lemmas.Bool.Decides.{nat_tests}
-use Rattle.view_steps.specs.declared.kinds.Kind.{Kind}
-use Rattle.view_steps.specs.declared.refusals.Refusal.TheVariants.{Limit}
-use Rattle.view_steps.specs.Limits.{ChangesUpTo}
-use Rattle.view_steps.specs.Views.{World, View, base, empty_base}
+use Rattle.vocabulary.specs.declared.kinds.Kind.{Kind}
+use Rattle.vocabulary.specs.declared.refusals.Refusal.TheVariants.{Limit}
+use Rattle.machine.specs.RowCounts.{ChangesUpTo}
+use Rattle.machine.specs.Bases.{World, empty_base}
+use Rattle.machine.specs.Views.{View, base}
+use Rattle.machine.specs.Leaves.{stored}
+use Rattle.machine.specs.Naming.{new_of}
+use Rattle.machine.specs.Outcomes.{Outcome, refused_late, says, within_handles}
+use Rattle.machine.specs.State.{Names, State, bound, to_view, named as bound_to}
 use Rattle.base_store.specs.declared.store.Made.{Made}
 use Rattle.base_store.specs.declared.store.Made.TheVariants as made
-use Rattle.base_store.specs.Nodes.{view_at}
-use Rattle.base_store.specs.Limits.{most_handles}
+use Rattle.vocabulary.specs.Limits.{most_handles}
 use Rattle.base_store.specs.Stored.{Stored, with_base}
 use Rattle.base_store.proofs.NodeLemmas.{added_base}
 use Rattle.session.specs.declared.faults.ExecFault.{ExecFault}
 use Rattle.session.specs.Coming.{seen_as}
-use Rattle.session.specs.Environment.{named, NamesWithin, IsSettled}
+use Rattle.session.specs.Environment.{bound_at, named, NamesWithin, IsSettled}
 use Rattle.session.specs.Executing.{Executed}
-use Rattle.session.specs.Machine.{made_new, within_handles}
-use Rattle.session.specs.Outcomes.{Outcome, refused_late, says}
 use Rattle.session.specs.Replying.{Said}
-use Rattle.session.specs.State.{State, bound, view_named}
 use Rattle.session.proofs.CallLemmas.{calm_on, does_said}
 use Rattle.session.proofs.EvalLemmas.{take_whole}
 use Rattle.session.proofs.FollowLemmas.{named_more, within_wider}
@@ -34,12 +35,12 @@ same_text = pointwise nat_eq
 
 -- ---- a look-up
 
-pub named_view : (nodes : List Made) (names : List (List ℕ × ℕ)) (name : List ℕ) → view_named (named nodes names) name ≡ option_map (view_at nodes) (lookup (same_text name) names)
-named_view nodes [] name = refl
-named_view nodes (e ∷ names) name = by (same_text name e.0) (named_view nodes names name)
+pub named_bound : (nodes : List Made) (names : List (List ℕ × ℕ)) (name : List ℕ) → bound_to (named nodes names) name ≡ option_map (bound_at nodes) (lookup (same_text name) names)
+named_bound nodes [] name = refl
+named_bound nodes (e ∷ names) name = by (same_text name e.0) (named_bound nodes names name)
   where
-    by : (b : Bool) → view_named (named nodes names) name ≡ option_map (view_at nodes) (lookup (same_text name) names)
-        → cond b (Some (view_at nodes e.1)) (view_named (named nodes names) name) ≡ option_map (view_at nodes) (cond b (Some e.1) (lookup (same_text name) names))
+    by : (b : Bool) → bound_to (named nodes names) name ≡ option_map (bound_at nodes) (lookup (same_text name) names)
+        → cond b (Some (bound_at nodes e.1)) (bound_to (named nodes names) name) ≡ option_map (bound_at nodes) (cond b (Some e.1) (lookup (same_text name) names))
     by true rest = refl
     by false rest = rest
 
@@ -70,14 +71,14 @@ handles-memory state n o wants = by (nat_lt most_handles (state.handles + n))
 
 -- ---- a new name
 
-pub bound_named : (nodes : List Made) (names : List (List ℕ × ℕ)) (name : List ℕ) (n : ℕ) → named nodes (insert_entry same_text names name n) ≡ bound (named nodes names) name (view_at nodes n)
+pub bound_named : (nodes : List Made) (names : List (List ℕ × ℕ)) (name : List ℕ) (n : ℕ) → named nodes (insert_entry same_text names name n) ≡ bound (named nodes names) name (bound_at nodes n)
 bound_named nodes [] name n = refl
 bound_named nodes (e ∷ names) name n = by (same_text name e.0) (bound_named nodes names name n)
   where
-    by : (b : Bool) → named nodes (insert_entry same_text names name n) ≡ bound (named nodes names) name (view_at nodes n)
-        → named nodes (cond b ((e.0, n) ∷ names) (e ∷ insert_entry same_text names name n)) ≡ cond b ((e.0, view_at nodes n) ∷ named nodes names) ((e.0, view_at nodes e.1) ∷ bound (named nodes names) name (view_at nodes n))
+    by : (b : Bool) → named nodes (insert_entry same_text names name n) ≡ bound (named nodes names) name (bound_at nodes n)
+        → named nodes (cond b ((e.0, n) ∷ names) (e ∷ insert_entry same_text names name n)) ≡ cond b ((e.0, bound_at nodes n) ∷ named nodes names) ((e.0, bound_at nodes e.1) ∷ bound (named nodes names) name (bound_at nodes n))
     by true rest = refl
-    by false rest = ap (λ (ns : List (List ℕ × View)). (e.0, view_at nodes e.1) ∷ ns) rest
+    by false rest = ap (λ (ns : Names). (e.0, bound_at nodes e.1) ∷ ns) rest
 
 pub within_more : (names : List (List ℕ × ℕ)) (name : List ℕ) (node n m : ℕ) → NamesWithin n names → n ≤ m → node < m → NamesWithin m (insert_entry same_text names name node)
 within_more [] name node n m h le lt = (lt, tt)
@@ -121,20 +122,28 @@ module _ (s now : Stored) (names names' : List (List ℕ × ℕ)) (name : List �
   worlds : now.world ≡ s.world ++ empty_base kind ∷ []
   worlds = ap (λ (x : Stored). x.world) h.grown
 
-  names_now : named now.nodes names' ≡ bound (named s.nodes names) name (base (length s.world))
+  abbrev all : World
+  all = s.world ++ empty_base kind ∷ []
+
+  -- the number of the last base
+  last : length s.world ≡ length all - 1
+  last = omega (arith, length-append s.world (empty_base kind ∷ []))
+
+  names_now : named now.nodes names' ≡ bound (named s.nodes names) name (to_view (base (stored (length all - 1))))
   names_now =
       ap (λ (ns : List (List ℕ × ℕ)). named now.nodes ns) h.entered ∙ bound_named now.nodes names name s.lasting
-      ∙ ap (λ (ns : List Made). bound (named ns names) name (view_at ns s.lasting)) nodes_now
-      ∙ ap (λ (known : List (List ℕ × View)). bound known name (view_at (s.nodes ++ made.Base (length s.world) ∷ []) s.lasting)) (named_more s.nodes (made.Base (length s.world) ∷ []) names (subst (λ (n : ℕ). NamesWithin n names) (sym h.settled.still) h.settled.named_within))
-      ∙ ap (λ (n : ℕ). bound (named s.nodes names) name (view_at (s.nodes ++ made.Base (length s.world) ∷ []) n)) (sym h.settled.still)
-      ∙ ap (λ (v : View). bound (named s.nodes names) name v) (added_base s.nodes (length s.world))
+      ∙ ap (λ (ns : List Made). bound (named ns names) name (bound_at ns s.lasting)) nodes_now
+      ∙ ap (λ (known : Names). bound known name (bound_at (s.nodes ++ made.Base (length s.world) ∷ []) s.lasting)) (named_more s.nodes (made.Base (length s.world) ∷ []) names (subst (λ (n : ℕ). NamesWithin n names) (sym h.settled.still) h.settled.named_within))
+      ∙ ap (λ (n : ℕ). bound (named s.nodes names) name (bound_at (s.nodes ++ made.Base (length s.world) ∷ []) n)) (sym h.settled.still)
+      ∙ ap (λ (v : View). bound (named s.nodes names) name (to_view v)) (added_base s.nodes (length s.world))
+      ∙ ap (λ (n : ℕ). bound (named s.nodes names) name (to_view (base (stored n)))) last
 
   -- the outcome of a line that makes a base
   abbrev pub state_before : State
   state_before = seen_as s (named s.nodes names)
 
   abbrev pub state_after : State
-  state_after = record { bases = s.world ++ empty_base kind ∷ []; names = bound (named s.nodes names) name (base (length s.world)); handles = s.handles + 1 }
+  state_after = record { bases = all; names = bound (named s.nodes names) name (to_view (base (stored (length all - 1)))); handles = s.handles + 1 }
 
   now_is : seen_as now (named now.nodes names') ≡ state_after
   now_is = λ i. record { bases = worlds i; names = names_now i; handles = (ap (λ (x : Stored). x.handles) h.grown) i }
@@ -147,7 +156,7 @@ module _ (s now : Stored) (names names' : List (List ℕ × ℕ)) (name : List �
   calm_more n [] c = (omega arith, tt)
   calm_more n (it ∷ world) c = let first : it.change ≤ n = c.0 in (omega (arith, first), calm_more n world c.1)
 
-  pub executed_new : (r : Result (Unit {0}) ExecFault) (t u : Option (List ℕ)) (f g : ℕ) → Said r t u f g (codes "ok" ++ 10 ∷ []) → Executed r state_before (seen_as now (named now.nodes names')) (made_new state_before name kind) t u f g
+  pub executed_new : (r : Result (Unit {0}) ExecFault) (t u : Option (List ℕ)) (f g : ℕ) → Said r t u f g (codes "ok" ++ 10 ∷ []) → Executed r state_before (seen_as now (named now.nodes names')) (new_of state_before name (Some kind)) t u f g
   executed_new r t u f g said = subst (λ (o : Outcome). Executed r state_before (seen_as now (named now.nodes names')) o t u f g) (sym roomy) (record {
     does = does_said r t u state_before (seen_as now (named now.nodes names')) state_after (codes "ok") true said.memory now_is said.wrote;
     changes = λ n c. subst (λ (w : World). ChangesUpTo (n + 1) w) (sym worlds) (calm_more n s.world c);

@@ -4,9 +4,9 @@ use Rattle.std.proofs.lemmas.List.{append-nil}
 use Rattle.elem.specs.Outside.{Takes, Rose}
 use Rattle.session.specs.Replying.{Pending, Goes, Refuses, Sends, Said, nothing_pending, with_piece, flushed, sent_result}
 use Rattle.session.specs.declared.faults.ExecFault.{ExecFault}
-use Rattle.view_steps.specs.declared.refusals.Refusal.{Refusal}
-use Rattle.view_steps.specs.declared.refusals.Refusal.TheVariants as refusal
-use Rattle.view_steps.specs.Refusals.{name_of}
+use Rattle.vocabulary.specs.declared.refusals.Refusal.{Refusal}
+use Rattle.vocabulary.specs.declared.refusals.Refusal.TheVariants as refusal
+use Rattle.vocabulary.specs.Refusals.{name_of}
 
 pub takes_none : (t : Option (List ℕ)) → Takes t t []
 takes_none None = tt

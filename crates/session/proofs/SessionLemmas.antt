@@ -4,11 +4,10 @@ use Rattle.std.specs.Prelude.{codes}
 use Rattle.std.specs.Map.{lookup}
 use Rattle.std.specs.Option.{option_map}
 use Rattle.std.proofs.lemmas.Bool.Decides.{nat_tests}
-use Rattle.view_steps.specs.Kinds.{kind_named}
-use Rattle.view_steps.specs.Views.{View}
+use Rattle.vocabulary.specs.Kinds.{kind_named}
+use Rattle.machine.specs.Views.{shape_at}
 use Rattle.base_store.specs.declared.store.Made.{Made}
-use Rattle.base_store.specs.Nodes.{view_at}
-use Rattle.base_store.specs.Stored.{Stored}
+use Rattle.base_store.specs.Stored.{Stored, view_in}
 use Rattle.script_text.specs.declared.kinds.KindName.{KindName}
 use Rattle.script_text.specs.declared.lines.Line.TheVariants as form
 use Rattle.script_text.specs.declared.lines.Part.{Part as Placed}
@@ -18,27 +17,32 @@ use Rattle.script_text.specs.Names.{kind_text}
 use Rattle.script_text.specs.Trees.{Call, Expression, Tree, expr_view, in_pieces, line_view, map_expression, map_tree, part_of}
 use Rattle.script_text.specs.Trees as tree
 use Rattle.session.specs.declared.faults.ExecFault.{ExecFault}
-use Rattle.session.specs.declared.typing.Fault.{Fault}
 use Rattle.session.specs.declared.faults.ExecFault.TheVariants.{NoMemory}
 use Rattle.session.specs.Coming.{Came, seen_as}
-use Rattle.session.specs.Environment.{named}
+use Rattle.session.specs.Environment.{bound_at, named}
 use Rattle.session.specs.Executing.{Executed}
-use Rattle.session.specs.Following.{target_in}
-use Rattle.session.specs.Machine.{concluded, eval_of, let_concluded, let_of, made_new, new_of, step_of}
-use Rattle.session.specs.Outcomes.{Outcome, says, refused_late}
-use Rattle.session.specs.Parts.{Part, parts_in}
+use Rattle.session.specs.Following.{parts_in, target_in}
+use Rattle.session.specs.KnownShapes.{is_known_shape}
 use Rattle.session.specs.Replying.{Refuses, Said}
-use Rattle.session.specs.declared.typing.Purpose.TheVariants as purpose
-use Rattle.session.specs.Typing.{fault_text}
-use Rattle.base_store.specs.Limits.{most_handles}
-use Rattle.view_steps.specs.declared.kinds.Kind.{Kind}
-use Rattle.view_steps.specs.declared.refusals.Refusal.{Refusal}
-use Rattle.view_steps.specs.Refusals.{name_of}
-use Rattle.view_steps.specs.declared.refusals.Refusal.TheVariants as refusal
-use Rattle.session.specs.State.{State, view_named}
-use Rattle.view_steps.specs.Limits.{ChangesUpTo}
-use Rattle.session.proofs.NameLemmas.{executed_said, executed_unchanged, handles-memory, named_view, same_text, without_room}
+use Rattle.session.specs.Targets.{concluded, let_concluded}
+use Rattle.machine.specs.Languages.{known, only_if}
+use Rattle.machine.specs.Lines.{eval_of, step_of}
+use Rattle.machine.specs.Naming.{let_of, new_of}
+use Rattle.machine.specs.Outcomes.{Outcome, fault_text, refused_late, says}
+use Rattle.machine.specs.Parts.{Part}
+use Rattle.machine.specs.State.{Bound, State, named as bound_to}
+use Rattle.vocabulary.specs.declared.lines.Fault.{Fault}
+use Rattle.vocabulary.specs.declared.lines.Purpose.TheVariants as purpose
+use Rattle.vocabulary.specs.Known.{is_known_kind}
+use Rattle.vocabulary.specs.Limits.{most_handles}
+use Rattle.vocabulary.specs.declared.kinds.Kind.{Kind}
+use Rattle.vocabulary.specs.declared.refusals.Refusal.{Refusal}
+use Rattle.vocabulary.specs.Refusals.{name_of}
+use Rattle.vocabulary.specs.declared.refusals.Refusal.TheVariants as refusal
+use Rattle.machine.specs.RowCounts.{ChangesUpTo}
+use Rattle.session.proofs.NameLemmas.{executed_said, executed_unchanged, handles-memory, named_bound, same_text, without_room}
 use Rattle.session.proofs.CallLemmas.{calm_on, stays}
+use Rattle.session.proofs.LineLemmas.{eval_leads, let_leads}
 use Rattle.session.proofs.ReplyLemmas.{takes_none}
 use Rattle.session.proofs.TextLemmas.{eval_alike, let_alike}
 
@@ -46,7 +50,7 @@ use Rattle.session.proofs.TextLemmas.{eval_alike, let_alike}
 
 module _ (state : State) (line : List ℕ) where
   abbrev stepped : Tree (Call Slice) → Outcome
-  stepped t = step_of state (map_tree (in_pieces line) t)
+  stepped t = step_of known state (map_tree (in_pieces line) t)
 
   pub on_blank : (parts : List Placed) (t : Tree (Call Slice)) → line_view form.Blank parts ≡ map_tree part_of t → (let o : Outcome = record { reply = None; after = state; memory = false } in o) ≡ stepped t
   on_blank parts tree.Blank e = refl
@@ -84,19 +88,19 @@ module _ (state : State) (line : List ℕ) where
   on_it name head parts (tree.It n x) e = refl
   on_it name head parts (tree.Eval x) e = cc
 
-  pub on_new : (name : List ℕ) (kind : KindName) (parts : List Placed) (t : Tree (Call Slice)) → line_view (form.New name kind) parts ≡ map_tree part_of t → new_of state name (kind_named (kind_text kind)) ≡ stepped t
+  pub on_new : (name : List ℕ) (kind : KindName) (parts : List Placed) (t : Tree (Call Slice)) → line_view (form.New name kind) parts ≡ map_tree part_of t → new_of state name (only_if is_known_kind (kind_named (kind_text kind))) ≡ stepped t
   on_new name kind parts tree.Blank e = cc
   on_new name kind parts tree.Long e = cc
   on_new name kind parts tree.Syntax e = cc
   on_new name kind parts (tree.New n k) e =
       let names : name ≡ n = cc in
       let kinds : kind_text kind ≡ k = cc in
-      ap (λ (x : List ℕ). new_of state x (kind_named (kind_text kind))) names ∙ ap (λ (x : List ℕ). new_of state n (kind_named x)) kinds
+      ap (λ (x : List ℕ). new_of state x (only_if is_known_kind (kind_named (kind_text kind)))) names ∙ ap (λ (x : List ℕ). new_of state n (only_if is_known_kind (kind_named x))) kinds
   on_new name kind parts (tree.Let n x) e = cc
   on_new name kind parts (tree.It n x) e = cc
   on_new name kind parts (tree.Eval x) e = cc
 
-  pub on_let : (name head : List ℕ) (parts : List Placed) (t : Tree (Call Slice)) → line_view (form.Let name head) parts ≡ map_tree part_of t → let_of state name (view_named state.names head) (parts_in line parts) ≡ stepped t
+  pub on_let : (name head : List ℕ) (parts : List Placed) (t : Tree (Call Slice)) → line_view (form.Let name head) parts ≡ map_tree part_of t → let_of known state name (bound_to state.names head) (parts_in line parts) ≡ stepped t
   on_let name head parts tree.Blank e = cc
   on_let name head parts tree.Long e = cc
   on_let name head parts tree.Syntax e = cc
@@ -106,12 +110,12 @@ module _ (state : State) (line : List ℕ) where
       let same : expr_view head parts ≡ map_expression part_of x = cc in
       let heads : head ≡ x.head = ap (λ (y : Expression Placed). y.head) same in
       let calls : parts ≡ map part_of x.calls = ap (λ (y : Expression Placed). y.calls) same in
-      ap (λ (m : List ℕ). let_of state m (view_named state.names head) (parts_in line parts)) names ∙ ap (λ (h : List ℕ). let_of state n (view_named state.names h) (parts_in line parts)) heads
-      ∙ ap (λ (ps : List Placed). let_of state n (view_named state.names x.head) (parts_in line ps)) calls ∙ let_alike state n line (view_named state.names x.head) x.calls
+      ap (λ (m : List ℕ). let_of known state m (bound_to state.names head) (parts_in line parts)) names ∙ ap (λ (h : List ℕ). let_of known state n (bound_to state.names h) (parts_in line parts)) heads
+      ∙ ap (λ (ps : List Placed). let_of known state n (bound_to state.names x.head) (parts_in line ps)) calls ∙ let_alike state n line (bound_to state.names x.head) x.calls
   on_let name head parts (tree.It n x) e = cc
   on_let name head parts (tree.Eval x) e = cc
 
-  pub on_eval : (head : List ℕ) (parts : List Placed) (t : Tree (Call Slice)) → line_view (form.Eval head) parts ≡ map_tree part_of t → eval_of state (view_named state.names head) (parts_in line parts) ≡ stepped t
+  pub on_eval : (head : List ℕ) (parts : List Placed) (t : Tree (Call Slice)) → line_view (form.Eval head) parts ≡ map_tree part_of t → eval_of known state head (bound_to state.names head) (parts_in line parts) ≡ stepped t
   on_eval head parts tree.Blank e = cc
   on_eval head parts tree.Long e = cc
   on_eval head parts tree.Syntax e = cc
@@ -122,8 +126,8 @@ module _ (state : State) (line : List ℕ) where
       let same : expr_view head parts ≡ map_expression part_of x = cc in
       let heads : head ≡ x.head = ap (λ (y : Expression Placed). y.head) same in
       let calls : parts ≡ map part_of x.calls = ap (λ (y : Expression Placed). y.calls) same in
-      ap (λ (h : List ℕ). eval_of state (view_named state.names h) (parts_in line parts)) heads
-      ∙ ap (λ (ps : List Placed). eval_of state (view_named state.names x.head) (parts_in line ps)) calls ∙ eval_alike state line (view_named state.names x.head) x.calls
+      ap (λ (h : List ℕ). eval_of known state h (bound_to state.names h) (parts_in line parts)) heads
+      ∙ ap (λ (ps : List Placed). eval_of known state x.head (bound_to state.names x.head) (parts_in line ps)) calls ∙ eval_alike state x.head line (bound_to state.names x.head) x.calls
 
 -- ---- how long a line is
 
@@ -178,36 +182,41 @@ executed_silent {q} {t} {u} {f} {g} s now names names' outcome same unnamed want
 
 -- ---- an expression behind a name
 
-pub name_unknown : (nodes : List Made) (names : List (List ℕ × ℕ)) (name : List ℕ) → lookup (same_text name) names ≡ None → view_named (named nodes names) name ≡ None
-name_unknown nodes names name e = named_view nodes names name ∙ ap (option_map (view_at nodes)) e
+pub name_unknown : (nodes : List Made) (names : List (List ℕ × ℕ)) (name : List ℕ) → lookup (same_text name) names ≡ None → bound_to (named nodes names) name ≡ None
+name_unknown nodes names name e = named_bound nodes names name ∙ ap (option_map (bound_at nodes)) e
 
 pub executed_eval : {r : Result (Unit {0}) ExecFault} {t u : Option (List ℕ)} {f g : ℕ} (s now : Stored) (names : List (List ℕ × ℕ)) (name : List ℕ) (head : ℕ) (parts : List Part) → lookup (same_text name) names ≡ Some head
-    → Came r s now (λ state. concluded state (target_in s names purpose.Reply head parts)) t u f g
-    → Executed r (seen_as s (named s.nodes names)) (seen_as now (named now.nodes names)) (eval_of (seen_as s (named s.nodes names)) (view_named (named s.nodes names) name) parts) t u f g
-executed_eval {r} {t} {u} {f} {g} s now names name head parts found h =
-    subst (λ (o : Outcome). Executed r (seen_as s (named s.nodes names)) (seen_as now (named now.nodes names)) o t u f g) outcome
-    (subst (λ (ns : List Made). Executed r (seen_as s (named s.nodes names)) (seen_as now (named ns names)) (concluded (seen_as s (named s.nodes names)) (target_in s names purpose.Reply head parts)) t u f g) (sym h.nodes) (h.executed (named s.nodes names)))
+    → is_known_shape (shape_at s.world (view_in s head)) ≡ true → Came r s now (λ state. concluded state (target_in s s.handles names purpose.Reply head parts)) t u f g
+    → Executed r (seen_as s (named s.nodes names)) (seen_as now (named now.nodes names)) (eval_of known (seen_as s (named s.nodes names)) name (bound_to (named s.nodes names) name) parts) t u f g
+executed_eval {r} {t} {u} {f} {g} s now names name head parts found shape h =
+    subst (λ (o : Outcome). Executed r before (seen_as now (named now.nodes names)) o t u f g) outcome
+    (subst (λ (ns : List Made). Executed r before (seen_as now (named ns names)) (concluded before (target_in s s.handles names purpose.Reply head parts)) t u f g) (sym h.nodes) (h.executed (named s.nodes names)))
   where
-    outcome : concluded (seen_as s (named s.nodes names)) (target_in s names purpose.Reply head parts) ≡ eval_of (seen_as s (named s.nodes names)) (view_named (named s.nodes names) name) parts
-    outcome = ap (λ (o : Option View). eval_of (seen_as s (named s.nodes names)) o parts) (sym (named_view s.nodes names name ∙ ap (option_map (view_at s.nodes)) found))
+    before : State
+    before = seen_as s (named s.nodes names)
+
+    outcome : concluded before (target_in s s.handles names purpose.Reply head parts) ≡ eval_of known before name (bound_to (named s.nodes names) name) parts
+    outcome = eval_leads before (view_in s head) parts shape ∙ ap (λ (o : Option Bound). eval_of known before name o parts) (sym (named_bound s.nodes names name ∙ ap (option_map (bound_at s.nodes)) found))
 
 -- words with a fault behind a name
 pub executed_fault : {q : Result (Unit {0}) ExecFault} {t u : Option (List ℕ)} {f g : ℕ} (s : Stored) (names : List (List ℕ × ℕ)) (name headname : List ℕ) (head : ℕ) (parts : List Part) (fault : Fault) → lookup (same_text headname) names ≡ Some head
-    → target_in s names purpose.Name head parts ≡ Err fault → Said q t u f g (fault_text fault ++ 10 ∷ [])
-    → Executed q (seen_as s (named s.nodes names)) (seen_as s (named s.nodes names)) (let_of (seen_as s (named s.nodes names)) name (view_named (named s.nodes names) headname) parts) t u f g
-executed_fault {q} {t} {u} {f} {g} s names name headname head parts fault found faulty said =
+    → is_known_shape (shape_at s.world (view_in s head)) ≡ true → target_in s s.handles names purpose.Name head parts ≡ Err fault → Said q t u f g (fault_text fault ++ 10 ∷ [])
+    → Executed q (seen_as s (named s.nodes names)) (seen_as s (named s.nodes names)) (let_of known (seen_as s (named s.nodes names)) name (bound_to (named s.nodes names) headname) parts) t u f g
+executed_fault {q} {t} {u} {f} {g} s names name headname head parts fault found shape faulty said =
     subst (λ (o : Outcome). Executed q before before o t u f g) outcome (executed_said q before t u f g (fault_text fault) said)
   where
     before : State
     before = seen_as s (named s.nodes names)
 
-    outcome : says before (fault_text fault) ≡ let_of before name (view_named (named s.nodes names) headname) parts
-    outcome = sym (ap (let_concluded before name (length parts)) faulty) ∙ ap (λ (v : Option View). let_of before name v parts) (sym (named_view s.nodes names headname ∙ ap (option_map (view_at s.nodes)) found))
+    outcome : says before (fault_text fault) ≡ let_of known before name (bound_to (named s.nodes names) headname) parts
+    outcome =
+        sym (ap (let_concluded before name (length parts)) faulty) ∙ let_leads before name (view_in s head) parts shape
+        ∙ ap (λ (o : Option Bound). let_of known before name o parts) (sym (named_bound s.nodes names headname ∙ ap (option_map (bound_at s.nodes)) found))
 
 -- a new base for which there is no handle, or no memory
 pub executed_full : {q : Result (Unit {0}) ExecFault} {t u : Option (List ℕ)} {f g : ℕ} (s now : Stored) (names names' : List (List ℕ × ℕ)) (name : List ℕ) (kind : Kind) (why : Refusal) → now ≡ s → names' ≡ names
     → ((why ≡ refusal.Limit) × (s.handles ≡ most_handles)) ⊎ (why ≡ refusal.NoMemory) → Refuses why q t u f g
-    → Executed q (seen_as s (named s.nodes names)) (seen_as now (named now.nodes names')) (made_new (seen_as s (named s.nodes names)) name kind) t u f g
+    → Executed q (seen_as s (named s.nodes names)) (seen_as now (named now.nodes names')) (new_of (seen_as s (named s.nodes names)) name (Some kind)) t u f g
 executed_full {q} {t} {u} {f} {g} s now names names' name kind why same unnamed (inr memory) said =
     executed_silent s now names names' _ same unnamed (handles-memory (seen_as s (named s.nodes names)) 1 _ refl) (subst (λ (x : Refusal). Refuses x q t u f g) memory said)
 executed_full {q} {t} {u} {f} {g} s now names names' name kind why same unnamed (inl full) said =

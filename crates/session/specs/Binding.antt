@@ -2,14 +2,14 @@
 use Rattle.std.specs.Prelude.{◌≡◌, ◌⊎◌, ℕ, ◌+◌, ◌<◌, ◌≤◌, max, List, [], ◌∷◌, ◌++◌, nat_eq, Option, Result, Ok, Err, codes}
 use Rattle.std.specs.Cmp.Lexicographic.{pointwise}
 use Rattle.indexmap.specs.IndexMap.{insert_entry}
-use Rattle.base_store.specs.Limits.{most_handles}
 use Rattle.base_store.specs.Stored.{Stored, with_kept, without_temporary}
 use Rattle.session.specs.declared.faults.ExecFault.{ExecFault}
 use Rattle.session.specs.declared.following.End.{End}
 use Rattle.session.specs.Following.{node_of}
 use Rattle.session.specs.Replying.{Refuses, Said}
-use Rattle.view_steps.specs.declared.refusals.Refusal.{Refusal}
-use Rattle.view_steps.specs.declared.refusals.Refusal.TheVariants.{Limit, NoMemory}
+use Rattle.vocabulary.specs.declared.refusals.Refusal.{Refusal}
+use Rattle.vocabulary.specs.declared.refusals.Refusal.TheVariants.{Limit, NoMemory}
+use Rattle.vocabulary.specs.Limits.{most_handles}
 
 -- so many handles would pass their limit, or memory ran out
 abbrev pub IsFull : Stored → ℕ → Refusal → Type 0

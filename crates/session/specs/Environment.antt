@@ -3,11 +3,15 @@ use Rattle.std.specs.Prelude.{◌≡◌, ℕ, ◌<◌, List, [], ◌∷◌, leng
 use Rattle.base_store.specs.Nodes.{view_at}
 use Rattle.base_store.specs.Stored.{Stored}
 use Rattle.base_store.specs.declared.store.Made.{Made}
-use Rattle.view_steps.specs.Views.{View}
+use Rattle.machine.specs.State.{Bound, Names, to_view}
+
+-- what the name of a node stands for: no name stands for an iterator yet
+abbrev pub bound_at : List Made → ℕ → Bound
+bound_at nodes n = to_view (view_at nodes n)
 
 -- the names with the views of their nodes
-abbrev pub named : List Made → List (List ℕ × ℕ) → List (List ℕ × View)
-named nodes names = map (λ (e : List ℕ × ℕ). (e.0, view_at nodes e.1)) names
+abbrev pub named : List Made → List (List ℕ × ℕ) → Names
+named nodes names = map (λ (e : List ℕ × ℕ). (e.0, bound_at nodes e.1)) names
 
 -- each name stands for a node among so many
 abbrev pub NamesWithin : ℕ → List (List ℕ × ℕ) → Type 0

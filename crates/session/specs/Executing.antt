@@ -3,9 +3,9 @@ use Rattle.std.specs.Prelude.{◌≡◌, ℕ, ◌+◌, ◌≤◌, true, List, Op
 use Rattle.elem.specs.Outside.{Takes, TakesFront, Stays, Rose}
 use Rattle.session.specs.declared.faults.ExecFault.{ExecFault}
 use Rattle.session.specs.declared.faults.ExecFault.TheVariants.{WriteFault, NoMemory}
-use Rattle.session.specs.Outcomes.{Outcome, written}
-use Rattle.session.specs.State.{State}
-use Rattle.view_steps.specs.Limits.{ChangesUpTo}
+use Rattle.machine.specs.Outcomes.{Outcome, written}
+use Rattle.machine.specs.RowCounts.{ChangesUpTo}
+use Rattle.machine.specs.State.{State}
 
 -- a line's outcome: the reply and the state, a front of the reply, or nothing at all where it may want memory
 abbrev pub Does : {T : Type 0} → Result T ExecFault → State → State → Outcome → Option (List ℕ) → Option (List ℕ) → Type 0

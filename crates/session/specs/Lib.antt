@@ -1,14 +1,10 @@
-pub mod Parts
-pub mod Arguments
-pub mod State
-pub mod Typing
+pub mod KnownShapes
 pub mod Replying
-pub mod Outcomes
-pub mod Called
 pub mod Executing
 pub mod Coming
-pub mod Machine
+pub mod Codes
 pub mod Environment
+pub mod Targets
 pub mod Following
 pub mod Binding
 pub mod Printing

@@ -1,6 +1,6 @@
 -- The text of a view's items, said one after another.
 use Rattle.std.specs.Prelude.{ℕ, Bool, true, false, List, [], ◌∷◌, ◌++◌, codes}
-use Rattle.view_steps.specs.Texts.{listed}
+use Rattle.machine.specs.Texts.{listed}
 
 -- what stands before an item
 abbrev pub separator : Bool → List ℕ

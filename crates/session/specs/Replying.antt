@@ -3,11 +3,11 @@ use Rattle.std.specs.Prelude.{◌≡◌, ◌≢◌, ℕ, ◌≤◌, Bool, true, 
 use Rattle.elem.specs.Outside.{Takes, TakesFront, Stays, IsFront, Rose}
 use Rattle.session.specs.declared.faults.ExecFault.{ExecFault}
 use Rattle.session.specs.declared.faults.ExecFault.TheVariants.{WriteFault, NoMemory}
-use Rattle.view_steps.specs.declared.answers.Answer.{Answer}
-use Rattle.view_steps.specs.declared.refusals.Refusal.{Refusal}
-use Rattle.view_steps.specs.declared.refusals.Refusal.TheVariants as refusal
-use Rattle.view_steps.specs.Answers.{answer_text}
-use Rattle.view_steps.specs.Refusals.{name_of}
+use Rattle.vocabulary.specs.declared.answers.Answer.{Answer}
+use Rattle.vocabulary.specs.declared.refusals.Refusal.{Refusal}
+use Rattle.vocabulary.specs.declared.refusals.Refusal.TheVariants as refusal
+use Rattle.machine.specs.Texts.{answer_text}
+use Rattle.vocabulary.specs.Refusals.{name_of}
 
 pub record Pending : Type 0 where
   pub bytes : List ℕ

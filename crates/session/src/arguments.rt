@@ -1,14 +1,16 @@
 //! Reading the texts of arguments.
-ghost use Rattle.std.specs.Prelude.{◌≡◌, ◌≤◌, length, is_some};
-ghost use Rattle.session.specs.Arguments as spec;
-ghost use Rattle.view_steps.specs.declared.steps.ChangeStep.{ChangeStep};
-ghost use Rattle.view_steps.specs.declared.steps.FilterStep.{FilterStep};
-ghost use Rattle.view_steps.specs.declared.steps.StepForm.TheVariants as form;
+ghost use Rattle.std.specs.Prelude.{◌≡◌, ◌≤◌, true, length, is_some};
+ghost use Rattle.machine.specs.Arguments as spec;
+ghost use Rattle.session.specs.Following.{asked};
+ghost use Rattle.vocabulary.specs.Known.{is_known_step};
+ghost use Rattle.vocabulary.specs.declared.steps.ChangeStep.{ChangeStep};
+ghost use Rattle.vocabulary.specs.declared.steps.FilterStep.{FilterStep};
+ghost use Rattle.vocabulary.specs.declared.steps.StepForm.TheVariants as form;
 
 use elem::{SpanFault, Word, read_number, read_span};
 use fn_lang::{FnFault, read_func, read_pair_pred, read_pred};
 use script_text::is_name;
-use view_steps::StepForm;
+use vocabulary::StepForm;
 
 /// The index that a text is: a number of 32 bits. One below zero is the index of nothing.
 pub fn read_index(text: &[u8]) -> Option<Option<usize>>
@@ -38,10 +40,11 @@ pub fn read_name(text: &[u8]) -> Option<Word>
     if is_name(&word) { Some(word) } else { None }
 }
 
-/// Whether a text fits the argument of a step.
+/// Whether a text fits the argument of a known step.
 pub fn fits_step(form: StepForm, text: &[u8]) -> bool
-    requires { length text.now ≤ 1024 }
-    ensures { result ≡ is_some (spec.step_with form text.now) }
+    requires known { is_known_step form ≡ true }
+    requires short { length text.now ≤ 1024 }
+    ensures { result ≡ is_some (asked form text.now) }
 {
     match form {
         StepForm::Plain(_) => true,
@@ -49,6 +52,7 @@ pub fn fits_step(form: StepForm, text: &[u8]) -> bool
         StepForm::FilterPairs => is_pair_pred(text),
         StepForm::Change(_) => is_func(text),
         StepForm::Within => is_range(text),
+        _ => false,
     }
 }
 
@@ -57,7 +61,7 @@ pub fn fits_step(form: StepForm, text: &[u8]) -> bool
 #[inline(never)]
 fn is_pred(text: &[u8]) -> bool
     requires { length text.now ≤ 1024 }
-    ensures { (word : FilterStep) → result ≡ is_some (spec.step_with (form.Filter word) text.now) }
+    ensures { (word : FilterStep) → result ≡ is_some (asked (form.Filter word) text.now) }
 {
     !matches!(read_pred(text), Err(FnFault::NotGrammar))
 }
@@ -65,7 +69,7 @@ fn is_pred(text: &[u8]) -> bool
 #[inline(never)]
 fn is_pair_pred(text: &[u8]) -> bool
     requires { length text.now ≤ 1024 }
-    ensures { result ≡ is_some (spec.step_with form.FilterPairs text.now) }
+    ensures { result ≡ is_some (asked form.FilterPairs text.now) }
 {
     !matches!(read_pair_pred(text), Err(FnFault::NotGrammar))
 }
@@ -73,13 +77,13 @@ fn is_pair_pred(text: &[u8]) -> bool
 #[inline(never)]
 fn is_func(text: &[u8]) -> bool
     requires { length text.now ≤ 1024 }
-    ensures { (word : ChangeStep) → result ≡ is_some (spec.step_with (form.Change word) text.now) }
+    ensures { (word : ChangeStep) → result ≡ is_some (asked (form.Change word) text.now) }
 {
     !matches!(read_func(text), Err(FnFault::NotGrammar))
 }
 
 fn is_range(text: &[u8]) -> bool
-    ensures { result ≡ is_some (spec.step_with form.Within text.now) }
+    ensures { result ≡ is_some (asked form.Within text.now) }
 {
     !matches!(read_span(text), Err(SpanFault::NotGrammar))
 }

@@ -1,19 +1,23 @@
 //! The bases of a session, and the names of views of them.
-ghost use Rattle.std.specs.Prelude.{◌≡◌, ◌≤◌, ◌^◌, ◌-◌, length, IfErr, OnErr, OnOk};
+ghost use Rattle.std.specs.Prelude.{◌≡◌, ◌≤◌, ◌^◌, ◌-◌, true, length, IfErr, IfSome, OnErr, OnOk};
 ghost use Rattle.script_text.specs.Names.{kind_text};
 ghost use Rattle.session.specs.Binding.{Answers, IsFull, KeptNode, Keeps};
-ghost use Rattle.session.specs.Parts.{parts_in};
 ghost use Rattle.session.specs.Executing.{Executed};
-ghost use Rattle.session.specs.Machine.{eval_of, let_of, new_of};
-ghost use Rattle.session.specs.State.{empty, view_named};
-ghost use Rattle.view_steps.specs.Kinds as kinds;
-ghost use Rattle.view_steps.specs.Limits.{ChangesUpTo};
+ghost use Rattle.session.specs.Following.{parts_in};
+ghost use Rattle.machine.specs.Languages.{known, only_if};
+ghost use Rattle.machine.specs.Lines.{eval_of};
+ghost use Rattle.machine.specs.Naming.{let_of, new_of};
+ghost use Rattle.machine.specs.State.{empty, named as bound_to};
+ghost use Rattle.vocabulary.specs.Known as language;
+ghost use Rattle.vocabulary.specs.Kinds as kinds;
+ghost use Rattle.machine.specs.RowCounts.{ChangesUpTo};
 
 use crate::evaluating::{evaluate, say_fault};
 use crate::faults::ExecFault;
 use crate::following::{End, follow};
+use crate::printing::known_shape;
 use crate::replies::{Reply, refuse, say};
-use crate::typing::{Purpose, typing_fault};
+use crate::typing::typing_fault;
 use base_store::{AnyRef, Store};
 use elem::{Sink, Steps, Word};
 use indexmap::IndexMap;
@@ -21,7 +25,7 @@ use script_text::{KindName, Part};
 use std::alloc::Global;
 use std::marker::Model;
 use std::sync::ledger::Ledger;
-use view_steps::{Refusal, kind_named};
+use vocabulary::{Kind, Purpose, Refusal, is_known_kind, kind_named};
 
 /// Bases, and names that stand for views of them.
 #[derive(Drop)]
@@ -31,13 +35,13 @@ pub struct Environment {
 }
 
 impl Model for Environment {
-    ghost use Rattle.session.specs.State.{State};
+    ghost use Rattle.machine.specs.State.{State};
     ghost use Rattle.std.specs.Coded.{codes};
-    ghost use Rattle.view_steps.specs.ViewCode.{view_code};
+    ghost use Rattle.session.specs.Codes.{bound_code};
 
     ghost Value = { State };
 
-    ghost coded = { Prim.hlevel (codes, view_code) };
+    ghost coded = { Prim.hlevel (codes, bound_code) };
 
     ghost use Rattle.session.specs.Coming.{seen_as};
     ghost use Rattle.session.specs.Environment.{IsSettled, named};
@@ -66,9 +70,9 @@ impl Environment {
         reply: &mut Reply,
         out: &mut S,
     ) -> Result<(), ExecFault>
-        ensures { Executed result self.old self.new (new_of self.old name (kinds.kind_named (kind_text kind.now))) (S.taken out.old) (S.taken out.new) (S.faults out.old) (S.faults out.new) }
+        ensures { Executed result self.old self.new (new_of self.old name (only_if language.is_known_kind (kinds.kind_named (kind_text kind.now)))) (S.taken out.old) (S.taken out.new) (S.faults out.old) (S.faults out.new) }
     {
-        let Some(kind) = kind_named(kind.bytes()) else {
+        let Some(kind) = known_kind(kind) else {
             return say(reply, out, b"?call");
         };
         if self.names.reserve(1).is_err() {
@@ -94,13 +98,13 @@ impl Environment {
         out: &mut S,
     ) -> Result<(), ExecFault>
         requires { length line.now ≤ 1024 }
-        ensures { Executed result self.old self.new (let_of self.old name (view_named self.old.names head) (parts_in line.now parts.now)) (S.taken out.old) (S.taken out.new) (S.faults out.old) (S.faults out.new) }
+        ensures { Executed result self.old self.new (let_of known self.old name (bound_to self.old.names head) (parts_in line.now parts.now)) (S.taken out.old) (S.taken out.new) (S.faults out.old) (S.faults out.new) }
     {
         let Some(head) = self.names.get(&head) else {
             return say(reply, out, b"?name");
         };
         let head = *head;
-        let shape = self.store.shape(head);
+        let shape = known_shape(&self.store, head);
         let fault = typing_fault(&self.store, &self.names, Purpose::Name, shape, line, parts);
         if let Some(fault) = fault {
             return say_fault(reply, out, fault);
@@ -129,7 +133,7 @@ impl Environment {
     ) -> Result<(), ExecFault>
         requires short { length line.now ≤ 1024 }
         requires change { ChangesUpTo (2 ^ 63 - 1) self.old.bases }
-        ensures { Executed result self.old self.new (eval_of self.old (view_named self.old.names head) (parts_in line.now parts.now)) (S.taken out.old) (S.taken out.new) (S.faults out.old) (S.faults out.new) }
+        ensures { Executed result self.old self.new (eval_of known self.old head (bound_to self.old.names head) (parts_in line.now parts.now)) (S.taken out.old) (S.taken out.new) (S.faults out.old) (S.faults out.new) }
     {
         let Some(head) = self.names.get(&head) else {
             return say(reply, out, b"?name");
@@ -145,6 +149,19 @@ impl Environment {
             out,
             steps,
         )
+    }
+}
+
+/// The kind that a word names, where it is known.
+fn known_kind(name: &KindName) -> Option<Kind>
+    ensures kind { result ≡ only_if language.is_known_kind (kinds.kind_named (kind_text name.now)) }
+    ensures known { IfSome result (λ kind. language.is_known_kind kind ≡ true) }
+{
+    let kind = kind_named(name.bytes())?;
+    if is_known_kind(kind) {
+        Some(kind)
+    } else {
+        None
     }
 }
 

@@ -1,28 +1,29 @@
 //! Evaluating the words behind a name.
-ghost use Rattle.std.specs.Prelude.{◌≡◌, ◌<◌, ◌≤◌, ◌++◌, ◌∷◌, [], ◌^◌, ◌-◌, Ok, length};
+ghost use Rattle.std.specs.Prelude.{◌≡◌, ◌<◌, ◌≤◌, ◌++◌, ◌∷◌, [], ◌^◌, ◌-◌, true, Ok, length};
 ghost use Rattle.base_store.specs.Stored.{view_in};
 ghost use Rattle.session.specs.Coming.{Came};
 ghost use Rattle.session.specs.Environment.{NamesWithin};
-ghost use Rattle.session.specs.Following.{IsEnd, end_in, target_in};
-ghost use Rattle.session.specs.Machine.{concluded};
-ghost use Rattle.session.specs.Parts.{parts_in};
+ghost use Rattle.session.specs.Following.{IsEnd, end_in, parts_in, target_in};
+ghost use Rattle.session.specs.KnownShapes.{is_known_shape};
 ghost use Rattle.session.specs.Replying.{Said};
-ghost use Rattle.session.specs.Typing.{fault_text};
-ghost use Rattle.session.specs.declared.typing.Purpose.TheVariants as purpose;
-ghost use Rattle.view_steps.specs.Limits.{ChangesUpTo};
+ghost use Rattle.session.specs.Targets.{concluded};
+ghost use Rattle.vocabulary.specs.declared.lines.Purpose.TheVariants as purpose;
+ghost use Rattle.machine.specs.Outcomes.{fault_text};
+ghost use Rattle.machine.specs.RowCounts.{ChangesUpTo};
+ghost use Rattle.machine.specs.Views.{shape_at};
 
 use crate::calling::{call_on, call_with_on};
 use crate::faults::ExecFault;
 use crate::following::{End, follow};
-use crate::printing::print;
+use crate::printing::{known_shape, print};
 use crate::replies::{Reply, refuse, say};
-use crate::typing::{Fault, Purpose, typing_fault};
+use crate::typing::typing_fault;
 use base_store::{AnyRef, Store};
 use elem::{Sink, Steps, Word};
 use indexmap::IndexMap;
 use script_text::Part;
 use std::sync::ledger::Ledger;
-use view_steps::Refusal;
+use vocabulary::{Fault, Purpose, Refusal};
 
 /// Evaluates the words behind a name: they lead to a view that is printed, or to a call on one.
 pub fn evaluate<S: Sink, L: Ledger>(
@@ -40,13 +41,14 @@ pub fn evaluate<S: Sink, L: Ledger>(
     requires names { NamesWithin store.old.lasting names.now.entries }
     requires short { length line.now ≤ 1024 }
     requires change { ChangesUpTo (2 ^ 63 - 1) store.old.world }
-    ensures { Came result store.old store.new (λ state. concluded state (target_in store.old names.now.entries purpose.Reply head (parts_in line.now parts.now))) (S.taken out.old) (S.taken out.new) (S.faults out.old) (S.faults out.new) }
+    ensures known { is_known_shape (shape_at store.old.world (view_in store.old head)) ≡ true }
+    ensures came { Came result store.old store.new (λ state. concluded state (target_in store.old store.old.handles names.now.entries purpose.Reply head (parts_in line.now parts.now))) (S.taken out.old) (S.taken out.new) (S.faults out.old) (S.faults out.new) }
 {
     if let Some(fault) = typing_fault(
         store,
         names,
         Purpose::Reply,
-        store.shape(head),
+        known_shape(store, head),
         line,
         parts,
     ) {

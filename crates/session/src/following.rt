@@ -2,21 +2,21 @@
 ghost use Rattle.std.specs.Prelude.{◌≡◌, ◌<◌, ◌≤◌, length, IsOk, Ok};
 ghost use Rattle.base_store.specs.Stored.{view_in, without_temporary};
 ghost use Rattle.session.specs.Environment.{NamesWithin, named};
-ghost use Rattle.session.specs.Following.{IsEnd, end_in, node_of, target_in};
-ghost use Rattle.session.specs.Parts.{parts_in};
-ghost use Rattle.session.specs.Typing.{typed_words};
-ghost use Rattle.view_steps.specs.Views as view;
+ghost use Rattle.session.specs.Following.{IsEnd, end_in, node_of, parts_in, target_in};
+ghost use Rattle.machine.specs.Languages.{known};
+ghost use Rattle.machine.specs.Typing.{typed_words};
+ghost use Rattle.machine.specs.Views as view;
 
 use crate::taking::take_step;
-use crate::typing::{Purpose, Typed, may_call, type_word};
+use crate::typing::{Typed, type_word};
 use base_store::{AnyRef, Store};
 use elem::Word;
 use indexmap::IndexMap;
 use script_text::Part;
-use view_steps::{Call, OnOther, Refusal};
+use vocabulary::{Call, OnOther, Purpose, Refusal};
 
 /// What an expression ends in: a view, or a call on one.
-#[derive(Clone, Copy, Debug)]
+#[derive(Clone, Copy)]
 pub enum End {
     View(AnyRef),
     Call(AnyRef, Call),
@@ -52,17 +52,24 @@ pub fn follow(
     requires still { length store.old.nodes ≡ store.old.lasting }
     requires names { NamesWithin store.old.lasting names.now.entries }
     requires short { length line.now ≤ 1024 }
-    requires typed { IsOk (typed_words store.old.world (named store.old.nodes names.now.entries) purpose (view.shape_at store.old.world (view_in store.old head)) (parts_in line.now parts.now)) }
+    requires typed { IsOk (typed_words known store.old.world (named store.old.nodes names.now.entries) purpose (view.shape_at store.old.world (view_in store.old head)) (parts_in line.now parts.now)) }
     ensures world { store.new.world ≡ store.old.world }
     ensures front { without_temporary store.new ≡ without_temporary store.old }
     ensures end { IsEnd store.new result }
-    ensures led { target_in store.old names.now.entries purpose head (parts_in line.now parts.now) ≡ Ok (end_in store.new result) }
+    ensures led { target_in store.old store.old.handles names.now.entries purpose head (parts_in line.now parts.now) ≡ Ok (end_in store.new result) }
 {
     let mut node = head;
     let mut rest = parts;
     while let [part, more @ ..] = rest {
-        let may_call = may_call(purpose, more.is_empty());
-        let typed = type_word(store, names, may_call, store.shape(node), line, part);
+        let typed = type_word(
+            store,
+            names,
+            purpose,
+            more.is_empty(),
+            store.shape(node),
+            line,
+            part,
+        );
         let Ok(word) = &typed else {
             return Err(Refusal::Limit);
         };

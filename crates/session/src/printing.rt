@@ -1,10 +1,13 @@
 //! Printing a view.
-ghost use Rattle.std.specs.Prelude.{◌≡◌, ◌<◌, ◌++◌, ◌∷◌, [], length, map as mapped};
+ghost use Rattle.std.specs.Prelude.{◌≡◌, ◌<◌, ◌++◌, ◌∷◌, [], true, length, None, map as mapped};
 ghost use Rattle.base_store.specs.Stored.{view_in};
+ghost use Rattle.session.specs.KnownShapes.{AreKnown, is_known_item, is_known_shape};
 ghost use Rattle.session.specs.Printing.{separator};
 ghost use Rattle.session.specs.Replying.{Goes, Said};
-ghost use Rattle.view_steps.specs.Texts as text;
-ghost use Rattle.view_steps.specs.Views.{shape_at, shown};
+ghost use Rattle.machine.specs.Reading.{reading_refusal};
+ghost use Rattle.machine.specs.Texts as text;
+ghost use Rattle.machine.specs.ViewTexts.{text_of};
+ghost use Rattle.machine.specs.Views.{shape_at, shown};
 
 use crate::faults::ExecFault;
 use crate::replies::Reply;
@@ -12,7 +15,7 @@ use base_store::{AnyRef, Store};
 use elem::{Sink, Steps, write_elem};
 use read_chain::Walk;
 use std::sync::ledger::Ledger;
-use view_steps::{Item, RowSort, Shape};
+use vocabulary::{Item, Shape};
 
 /// Says the text of a view.
 pub fn print<S: Sink, L: Ledger>(
@@ -23,10 +26,11 @@ pub fn print<S: Sink, L: Ledger>(
     steps: &mut Steps<L>,
 ) -> Result<(), ExecFault>
     requires node { n < length store.now.nodes }
-    ensures { let w = store.now.world in let v = view_in store.now n in
-        Said result (S.taken out.old) (S.taken out.new) (S.faults out.old) (S.faults out.new) (text.view_text (shape_at w v) (shown w v) ++ 10 ∷ []) }
+    ensures read { reading_refusal store.now.world (view_in store.now n) ≡ None }
+    ensures said { Said result (S.taken out.old) (S.taken out.new) (S.faults out.old) (S.faults out.new) (text_of store.now.world (view_in store.now n) ++ 10 ∷ []) }
 {
-    let shape = store.shape(n);
+    let shape = known_shape(store, n);
+    items_fit(store, n);
     reply.begin();
     reply.write(out, opening(shape));
     write_items(store, n, reply, out, steps);
@@ -34,21 +38,42 @@ pub fn print<S: Sink, L: Ledger>(
     reply.end(out)
 }
 
+/// The shape of a node, which is one of lists, sets and maps. Reading such a view is not refused.
+pub fn known_shape(store: &Store, n: AnyRef) -> Shape
+    requires { n < length store.now.nodes }
+    ensures shape { result ≡ shape_at store.now.world (view_in store.now n) }
+    ensures known { is_known_shape result ≡ true }
+    ensures read { reading_refusal store.now.world (view_in store.now n) ≡ None }
+{
+    let _base = store.base_of(n);
+    store.shape(n)
+}
+
+/// Does nothing; its contract says that a view shows elements, or keys and their values.
+fn items_fit(store: &Store, n: AnyRef)
+    requires { n < length store.now.nodes }
+    ensures { AreKnown (shown store.now.world (view_in store.now n)) }
+{
+    store.rows_fit(store.base_of(n));
+}
+
 fn opening(shape: Shape) -> &'static [u8]
+    requires { is_known_shape shape ≡ true }
     ensures { result.now ≡ text.opening shape }
 {
     match shape {
-        Shape::List | Shape::Set { .. } | Shape::Coll | Shape::Rows(RowSort::Entry) => b"[",
         Shape::Map { .. } => b"{",
+        _ => b"[",
     }
 }
 
 fn closing(shape: Shape) -> &'static [u8]
+    requires { is_known_shape shape ≡ true }
     ensures { result.now ≡ text.closing shape }
 {
     match shape {
-        Shape::List | Shape::Set { .. } | Shape::Coll | Shape::Rows(RowSort::Entry) => b"]",
         Shape::Map { .. } => b"}",
+        _ => b"]",
     }
 }
 
@@ -63,6 +88,7 @@ fn write_items<S: Sink, L: Ledger>(
     requires node { n < length store.now.nodes }
     ensures { Goes (S.taken out.old) (S.taken out.new) (S.faults out.old) (S.faults out.new) reply.old reply.new (text.listed (mapped text.item_text (shown store.now.world (view_in store.now n)))) }
 {
+    items_fit(store, n);
     let mut walk = Walk::over(store, n, false);
     let mut is_first = true;
     while let Some(item) = walk.next(store, steps) {
@@ -81,6 +107,7 @@ fn separator(is_first: bool) -> &'static [u8]
 
 /// Writes an element, or a key and its value.
 fn write_item<S: Sink>(item: &Item, reply: &mut Reply, out: &mut S)
+    requires { is_known_item item.now ≡ true }
     ensures { Goes (S.taken out.old) (S.taken out.new) (S.faults out.old) (S.faults out.new) reply.old reply.new (text.item_text item.now) }
 {
     match item {
@@ -90,5 +117,6 @@ fn write_item<S: Sink>(item: &Item, reply: &mut Reply, out: &mut S)
             reply.write(out, b"=");
             reply.write(out, write_elem(*v).as_slice());
         }
+        _ => {}
     }
 }

@@ -1,16 +1,16 @@
 //! What is written to the sink.
-ghost use Rattle.std.specs.Prelude.{◌≡◌, ◌++◌, ◌∷◌, [], decimal};
+ghost use Rattle.std.specs.Prelude.{◌≡◌, ◌++◌, ◌∷◌, [], true, decimal};
 ghost use Rattle.std.specs.Bool.{OnFalse, OnTrue};
+ghost use Rattle.session.specs.KnownShapes.{is_known_answer};
 ghost use Rattle.session.specs.Replying.{Goes, Refuses, Said, nothing_pending, with_piece, flushed, sent_result};
-ghost use Rattle.view_steps.specs.Answers.{answer_text, index_text};
-ghost use Rattle.view_steps.specs.Texts.{optional_text, truth_text};
+ghost use Rattle.machine.specs.Texts.{answer_text, index_text, optional_text, truth_text};
 
 use crate::faults::ExecFault;
 use arrayvec::ArrayVec;
 use elem::{Elem, Sink, write_elem};
 use itoa::Buffer;
 use std::marker::Model;
-use view_steps::{Answer, Refusal};
+use vocabulary::{Answer, Refusal};
 
 /// A reply on its way to the sink: it goes there in one piece where it is short, in pieces of at most 4 KiB where it is
 /// not. After a failure of the sink nothing more goes there, until the next reply is begun.
@@ -108,17 +108,18 @@ pub fn say<S: Sink>(reply: &mut Reply, out: &mut S, text: &[u8]) -> Result<(), E
     reply.end(out)
 }
 
-/// Says the answer of a call.
+/// Says the answer of a call, in which no row stands.
 pub fn say_answer<S: Sink>(reply: &mut Reply, out: &mut S, answer: &Answer) -> Result<(), ExecFault>
+    requires { is_known_answer answer.now ≡ true }
     ensures { Said result (S.taken out.old) (S.taken out.new) (S.faults out.old) (S.faults out.new) (answer_text answer.now ++ 10 ∷ []) }
 {
     match answer {
-        Answer::Done => say(reply, out, b"ok"),
         Answer::Truth(truth) => say_truth(reply, out, *truth),
         Answer::Number(number) => say_number(reply, out, *number),
         Answer::Index(index) => say_index(reply, out, *index),
         Answer::Element(x) => say(reply, out, write_elem(*x).as_slice()),
         Answer::Optional(value) => say_optional(reply, out, *value),
+        _ => say(reply, out, b"ok"),
     }
 }
 

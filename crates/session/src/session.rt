@@ -2,11 +2,12 @@
 ghost use Rattle.std.specs.Prelude.{◌≡◌, ℕ, ◌+◌, ◌^◌, ◌-◌, ◌≤◌, true, Err, OnOk};
 ghost use Rattle.elem.specs.Outside.{Rose};
 ghost use Rattle.session.specs.Executing.{Executed};
-ghost use Rattle.session.specs.Machine.{step};
-ghost use Rattle.session.specs.Outcomes.{written};
 ghost use Rattle.session.specs.Replying.{Wrote};
-ghost use Rattle.session.specs.State.{empty};
-ghost use Rattle.view_steps.specs.Limits.{ChangesUpTo};
+ghost use Rattle.machine.specs.Languages.{known};
+ghost use Rattle.machine.specs.Lines.{step};
+ghost use Rattle.machine.specs.Outcomes.{written};
+ghost use Rattle.machine.specs.State.{empty};
+ghost use Rattle.machine.specs.RowCounts.{ChangesUpTo};
 
 use crate::environment::Environment;
 use crate::faults::ExecFault;
@@ -30,13 +31,13 @@ pub struct Session {
 }
 
 impl Model for Session {
-    ghost use Rattle.session.specs.State.{State};
+    ghost use Rattle.machine.specs.State.{State};
     ghost use Rattle.std.specs.Coded.{codes};
-    ghost use Rattle.view_steps.specs.ViewCode.{view_code};
+    ghost use Rattle.session.specs.Codes.{bound_code};
 
     ghost Value = { State };
 
-    ghost coded = { Prim.hlevel (codes, view_code) };
+    ghost coded = { Prim.hlevel (codes, bound_code) };
 
     ghost view = { λ session. session.environment };
 }
@@ -67,10 +68,10 @@ impl Session {
         steps: &mut Steps<L>,
     ) -> Result<(), ExecFault>
         requires { ChangesUpTo (2 ^ 63 - 1) self.old.bases }
-        ensures ok { OnOk result (self.new ≡ (step self.old line.now).after) }
-        ensures reply { Wrote result (S.taken out.old) (S.taken out.new) (written (step self.old line.now).reply) }
+        ensures ok { OnOk result (self.new ≡ (step known self.old line.now).after) }
+        ensures reply { Wrote result (S.taken out.old) (S.taken out.new) (written (step known self.old line.now).reply) }
         ensures unchanged { result ≡ Err ExecFault.NoMemory → self.new ≡ self.old }
-        ensures memory { result ≡ Err ExecFault.NoMemory → (step self.old line.now).memory ≡ true }
+        ensures memory { result ≡ Err ExecFault.NoMemory → (step known self.old line.now).memory ≡ true }
         ensures changes { (n : ℕ) → ChangesUpTo n self.old.bases → ChangesUpTo (n + 1) self.new.bases }
         ensures later { S.faults out.old ≤ S.faults out.new }
         ensures cause { result ≡ Err ExecFault.WriteFault → Rose (S.faults out.old) (S.faults out.new) }
@@ -85,7 +86,7 @@ impl Session {
         steps: &mut Steps<L>,
     ) -> Result<(), ExecFault>
         requires { ChangesUpTo (2 ^ 63 - 1) self.old.bases }
-        ensures { Executed result self.old self.new (step self.old line.now) (S.taken out.old) (S.taken out.new) (S.faults out.old) (S.faults out.new) }
+        ensures { Executed result self.old self.new (step known self.old line.now) (S.taken out.old) (S.taken out.new) (S.faults out.old) (S.faults out.new) }
     {
         match read_line(line, &mut self.parts) {
             Line::Blank => Ok(()),

@@ -5,45 +5,32 @@ ghost use Rattle.std.specs.Result.{result_err};
 ghost use Rattle.base_store.specs.Stored.{Stored};
 ghost use Rattle.script_text.specs.Parts.{part_in};
 ghost use Rattle.session.specs.Environment.{NamesWithin, named};
-ghost use Rattle.session.specs.Following.{HasCalls, IsTyped, meant_in};
-ghost use Rattle.session.specs.Parts.{parts_in, text_at};
-ghost use Rattle.session.specs.Arguments.{name_in, step_with};
-ghost use Rattle.session.specs.Typing as spec;
-ghost use Rattle.view_steps.specs.Calls.{fits};
-ghost use Rattle.view_steps.specs.Steps.{apply_form};
-ghost use Rattle.view_steps.specs.declared.calls.Call.TheVariants as call;
-ghost use Rattle.view_steps.specs.declared.shapes.Shape.{Shape as AnyShape};
+ghost use Rattle.session.specs.Following as spec;
+ghost use Rattle.session.specs.Following.{HasCalls, IsTyped, asked, meant_in, parts_in};
+ghost use Rattle.machine.specs.Languages.{known, only_if};
+ghost use Rattle.machine.specs.Meanings as meaning;
+ghost use Rattle.machine.specs.Parts.{text_at};
+ghost use Rattle.machine.specs.Typing.{typed_words};
+ghost use Rattle.vocabulary.specs.Fits.{fits};
+ghost use Rattle.vocabulary.specs.Known as table;
+ghost use Rattle.vocabulary.specs.Shapes as shapes;
+ghost use Rattle.vocabulary.specs.Words as words;
+ghost use Rattle.vocabulary.specs.StepShapes.{apply_form};
+ghost use Rattle.vocabulary.specs.declared.calls.Call.TheVariants as call;
+ghost use Rattle.vocabulary.specs.declared.shapes.Shape.{Shape as AnyShape};
 
 use crate::arguments::{fits_step, read_index, read_name};
 use base_store::{AnyRef, Store};
 use elem::{Elem, Word, read_elem};
 use indexmap::IndexMap;
 use script_text::Part;
-use view_steps::{
-    Action, Call, CallForm, OnElement, OnIndex, OnIndexed, OnOther, OnPair, Shape, StepForm,
-    apply_form, fits_with, signature, sort_of,
+use vocabulary::{
+    Action, Call, CallForm, Fault, OnElement, OnIndex, OnIndexed, OnOther, OnPair, Purpose, Shape,
+    StepForm, apply_form, fits_with, is_known, signature, sort_of,
 };
 
-/// What an expression is for.
-#[derive(Clone, Copy, Debug)]
-pub enum Purpose {
-    /// A reply: it shows a view, or ends in a call on one.
-    Reply,
-    /// A name: all its words are steps.
-    Name,
-}
-
-/// What is wrong with a word.
-#[derive(Clone, Copy, Debug)]
-pub enum Fault {
-    /// An argument is a name that stands for nothing.
-    Name,
-    /// The word has no meaning in its place with these arguments.
-    Call,
-}
-
 /// What one word does.
-#[derive(Clone, Copy, Debug)]
+#[derive(Clone, Copy)]
 pub enum Typed {
     /// A step whose argument the text fits, and the shape that it gives. The text is read again where the step is made.
     Step(StepForm, Shape),
@@ -64,13 +51,12 @@ pub fn typing_fault(
 ) -> Option<Fault>
     requires names { NamesWithin (length store.now.nodes) names.now.entries }
     requires short { length line.now ≤ 1024 }
-    ensures { result ≡ result_err (spec.typed_words store.now.world (named store.now.nodes names.now.entries) purpose shape (parts_in line.now parts.now)) }
+    ensures { result ≡ result_err (typed_words known store.now.world (named store.now.nodes names.now.entries) purpose shape (parts_in line.now parts.now)) }
 {
     let mut on = shape;
     let mut rest = parts;
     while let [part, more @ ..] = rest {
-        let may_call = may_call(purpose, more.is_empty());
-        let typed = type_word(store, names, may_call, on, line, part);
+        let typed = type_word(store, names, purpose, more.is_empty(), on, line, part);
         match &typed {
             Ok(word) => {
                 let Typed::Step(_, next) = word else {
@@ -86,12 +72,12 @@ pub fn typing_fault(
 }
 
 /// Whether a call may stand where a word stands: last, in an expression that asks for a reply.
-pub fn may_call(purpose: Purpose, is_last: bool) -> bool
-    ensures { result ≡ spec.may_call purpose is_last }
+fn may_call(purpose: Purpose, is_last: bool) -> bool
+    ensures { result ≡ meaning.may_call purpose is_last }
 {
     match purpose {
         Purpose::Reply => is_last,
-        Purpose::Name => false,
+        Purpose::Name | Purpose::Iterator => false,
     }
 }
 
@@ -103,29 +89,43 @@ pub fn may_call(purpose: Purpose, is_last: bool) -> bool
 pub fn type_word(
     store: &Store,
     names: &IndexMap<Word, AnyRef>,
-    may_call: bool,
+    purpose: Purpose,
+    is_last: bool,
     on: Shape,
     line: &[u8],
     part: &Part,
 ) -> Result<Typed, Fault>
     requires names { NamesWithin (length store.now.nodes) names.now.entries }
     requires short { length line.now ≤ 1024 }
-    ensures meaning { meant_in store.now (text_at (part_in line.now part.now).args 0) result ≡ spec.typed_word store.now.world (named store.now.nodes names.now.entries) may_call on (part_in line.now part.now) }
+    ensures meaning { meant_in store.now (text_at (part_in line.now part.now).args 0) result ≡ meaning.typed_word known store.now.world (named store.now.nodes names.now.entries) purpose is_last on (part_in line.now part.now) }
     ensures typed { IfOk result (λ it. IsTyped store.now on (text_at (part_in line.now part.now).args 0) it) }
 {
     let a = part.argument(line, 0);
     let b = part.argument(line, 1);
-    match signature(sort_of(on), part.word.bytes(), part.count as usize) {
+    match known_action(on, part) {
         Some(Action::Step(form)) => type_step(on, a, form),
-        Some(Action::Call(form)) if may_call => type_call(store, names, on, a, b, form),
-        _ => Err(Fault::Call),
+        Some(Action::Call(form)) if may_call(purpose, is_last) => type_call(
+            store, names, on, a, b, form,
+        ),
+        Some(Action::Call(_)) => Err(Fault::Call),
+        Some(Action::Make(_)) => Err(Fault::Call),
+        None => Err(Fault::Call),
     }
 }
 
-/// A step, on a shape that has it, where the text fits its argument.
+/// What a word does on a view of a shape, where it is known.
+fn known_action(on: Shape, part: &Part) -> Option<Action>
+    ensures { result ≡ only_if table.is_known (words.signature (shapes.sort_of on) part.now.word part.now.count) }
+{
+    let action = signature(sort_of(on), part.word.bytes(), part.count as usize)?;
+    if is_known(action) { Some(action) } else { None }
+}
+
+/// A known step, on a shape that has it, where the text fits its argument.
 fn type_step(on: Shape, a: &[u8], form: StepForm) -> Result<Typed, Fault>
-    requires { length a.now ≤ 1024 }
-    ensures meaning { (s : Stored) → meant_in s a.now result ≡ spec.a_step (step_with form a.now) (apply_form on form) }
+    requires known { table.is_known_step form ≡ true }
+    requires short { length a.now ≤ 1024 }
+    ensures meaning { (s : Stored) → meant_in s a.now result ≡ spec.a_step (asked form a.now) (apply_form on form) }
     ensures typed { (s : Stored) → IfOk result (λ it. IsTyped s on a.now it) }
 {
     match apply_form(on, form) {
@@ -134,7 +134,7 @@ fn type_step(on: Shape, a: &[u8], form: StepForm) -> Result<Typed, Fault>
     }
 }
 
-/// A call of a form that views of the shape have, with its arguments, the first two of which are `a` and `b`.
+/// A known call of a form that views of the shape have, with its arguments, the first two of which are `a` and `b`.
 fn type_call(
     store: &Store,
     names: &IndexMap<Word, AnyRef>,
@@ -144,8 +144,9 @@ fn type_call(
     form: CallForm,
 ) -> Result<Typed, Fault>
     requires names { NamesWithin (length store.now.nodes) names.now.entries }
+    requires known { table.is_known_call form ≡ true }
     requires had { HasCalls on form }
-    ensures meaning { (text : List ℕ) → meant_in store.now text result ≡ spec.call_with store.now.world (named store.now.nodes names.now.entries) on a.now b.now form }
+    ensures meaning { (text third : List ℕ) → meant_in store.now text result ≡ meaning.call_typed store.now.world (named store.now.nodes names.now.entries) on form a.now b.now third }
     ensures typed { (text : List ℕ) → IfOk result (λ it. IsTyped store.now on text it) }
 {
     match form {
@@ -155,10 +156,11 @@ fn type_call(
         CallForm::Indexed(word) => a_call(indexed_call(word, read_index(a), read_elem(b))),
         CallForm::Pair(word) => a_call(pair_call(word, read_elem(a), read_elem(b))),
         CallForm::Other(word) => type_other(store, names, on, word, a),
+        _ => Err(Fault::Call),
     }
 }
 
-/// A call with the view of a name, on a shape that has it with the shape of that view.
+/// A known call with the view of a name, on a shape that has it with the shape of that view.
 fn type_other(
     store: &Store,
     names: &IndexMap<Word, AnyRef>,
@@ -166,8 +168,9 @@ fn type_other(
     word: OnOther,
     text: &[u8],
 ) -> Result<Typed, Fault>
-    requires { NamesWithin (length store.now.nodes) names.now.entries }
-    ensures meaning { (first : List ℕ) → meant_in store.now first result ≡ spec.with_name store.now.world (named store.now.nodes names.now.entries) on word (name_in text.now) }
+    requires names { NamesWithin (length store.now.nodes) names.now.entries }
+    requires known { table.is_known_other word ≡ true }
+    ensures meaning { (first : List ℕ) → meant_in store.now first result ≡ meaning.if_fits (meaning.call_with store.now.world on word) (meaning.view_named (named store.now.nodes names.now.entries) text.now) }
     ensures typed { (first : List ℕ) → IfOk result (λ it. IsTyped store.now on first it) }
 {
     let Some(name) = read_name(text) else {
@@ -186,7 +189,7 @@ fn type_other(
 
 fn a_call(call: Option<Call>) -> Result<Typed, Fault>
     ensures meaning { (s : Stored) (text : List ℕ) → meant_in s text result ≡ spec.a_call call }
-    ensures typed { (s : Stored) (on : AnyShape) (text : List ℕ) → IfSome call (λ it. fits on it ≡ true) → IfOk result (λ it. IsTyped s on text it) }
+    ensures typed { (s : Stored) (on : AnyShape) (text : List ℕ) → IfSome call (λ it. (fits on it ≡ true) × (table.is_known_call (table.form_of_call it) ≡ true)) → IfOk result (λ it. IsTyped s on text it) }
 {
     match call {
         Some(call) => Ok(Typed::Call(call)),

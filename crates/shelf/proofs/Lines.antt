@@ -4,13 +4,13 @@ use Rattle.std.specs.List.{onto_first}
 use Rattle.std.proofs.lemmas.List.{append-nil, take_all, length-take}
 use Rattle.std.proofs.lemmas.Bool.Decides.{nat_tests, leb_tells}
 use borrow.Author.Tests.{lt-ltb}
-use Rattle.session.specs.State.{State, empty}
-use Rattle.session.specs.Machine.{step, step_of}
+use Rattle.machine.specs.State.{State, empty}
+use Rattle.machine.specs.Languages.{known}
+use Rattle.machine.specs.Lines.{step, step_of}
 use Rattle.elem.specs.Lexing.{lexed}
 use Rattle.script_text.specs.Lines.{form_of, is_comment, is_new, line_of, new_of, placed_line, tree_or_fault}
-use Rattle.script_text.specs.Trees.{Blank, Call, Long, Tree, in_pieces, map_tree}
-use Rattle.script_text.specs.declared.lines.Slice.{Slice}
-use Rattle.session.specs.Outcomes.{written}
+use Rattle.script_text.specs.Trees.{Blank, Long, in_pieces, map_tree}
+use Rattle.machine.specs.Outcomes.{written}
 use Rattle.shelf.specs.Transcript.{lines_of, replies, transcript, before_lines, whole_lines}
 use Rattle.shelf.specs.Feed.{IsOneLine, kept, replies_with, replies_on, whole_replies_on}
 
@@ -60,8 +60,8 @@ last_line b [] h = ap (λ (t : Bool). cond t ([] ∷ []) ((b ∷ []) ∷ [])) h.
 last_line b (c ∷ cs) h =
     ap (λ (t : Bool). cond t ([] ∷ lines_of (c ∷ cs)) (onto_first b (lines_of (c ∷ cs)))) h.0 ∙ ap (onto_first b) (last_line c cs h.1)
 
-reply_kept : (state : State) (line : List ℕ) → written (step state (kept line)).reply ≡ written (step state line).reply
-reply_kept state line = ap (λ l. written (step_of state l).reply) (read_kept line)
+reply_kept : (state : State) (line : List ℕ) → written (step known state (kept line)).reply ≡ written (step known state line).reply
+reply_kept state line = ap (λ l. written (step_of known state l).reply) (read_kept line)
 
 at_end : (state : State) (line : List ℕ) → IsOneLine line → replies state (lines_of line) ≡ replies_on state (kept line) []
 unfolding replies replies_with
@@ -71,20 +71,20 @@ at_end state (b ∷ bs) h = ap (replies state) (last_line b bs h) ∙ append-nil
 pub on_from : (state : State) (line bs : List ℕ) → IsOneLine line → replies state (lines_of (line ++ bs)) ≡ replies_on state (kept line) bs
 unfolding replies replies_with
 on_from state line [] h = ap (λ l. replies state (lines_of l)) (append-nil line) ∙ at_end state line h
-on_from state line (c ∷ cs) h = by (c == 10) refl (on_from (step state line).after [] cs tt) (λ e. on_from state (line ++ c ∷ []) cs (one_more line c h e))
+on_from state line (c ∷ cs) h = by (c == 10) refl (on_from (step known state line).after [] cs tt) (λ e. on_from state (line ++ c ∷ []) cs (one_more line c h e))
   where
-    newline : c ≡ 10 → replies (step state line).after (lines_of cs) ≡ replies_on (step state line).after [] cs → replies state (lines_of (line ++ c ∷ cs)) ≡ replies_on state (kept line) (c ∷ cs)
+    newline : c ≡ 10 → replies (step known state line).after (lines_of cs) ≡ replies_on (step known state line).after [] cs → replies state (lines_of (line ++ c ∷ cs)) ≡ replies_on state (kept line) (c ∷ cs)
     newline e rest = subst (λ (d : ℕ). replies state (lines_of (line ++ d ∷ cs)) ≡ replies_on state (kept line) (d ∷ cs)) (sym e)
-        (ap (replies state) (lines_at line cs h) ∙ ap (λ ys. written (step state line).reply ++ ys) rest
-        ∙ sym (ap (λ l. written (step_of state l).reply ++ replies_on (step_of state l).after [] cs) (read_kept line)))
+        (ap (replies state) (lines_at line cs h) ∙ ap (λ ys. written (step known state line).reply ++ ys) rest
+        ∙ sym (ap (λ l. written (step_of known state l).reply ++ replies_on (step_of known state l).after [] cs) (read_kept line)))
 
-    by : (t : Bool) → c == 10 ≡ t → replies (step state line).after (lines_of cs) ≡ replies_on (step state line).after [] cs →
+    by : (t : Bool) → c == 10 ≡ t → replies (step known state line).after (lines_of cs) ≡ replies_on (step known state line).after [] cs →
         (c == 10 ≡ false → replies state (lines_of ((line ++ c ∷ []) ++ cs)) ≡ replies_on state (kept (line ++ c ∷ [])) cs) →
         replies state (lines_of (line ++ c ∷ cs)) ≡ replies_on state (kept line) (c ∷ cs)
     by true e rest more = newline (grind (arith, nat_tests)) rest
     by false e rest more =
         sym (ap (λ l. replies state (lines_of l)) (append_assoc line (c ∷ []) cs)) ∙ more e ∙ ap (λ l. replies_on state l cs) (sym (kept_more line (c ∷ [])))
-        ∙ sym (ap (λ (t : Bool). cond t (written (step state (kept line)).reply ++ replies_on (step state (kept line)).after [] cs) (replies_on state (kept (kept line ++ c ∷ [])) cs)) e)
+        ∙ sym (ap (λ (t : Bool). cond t (written (step known state (kept line)).reply ++ replies_on (step known state (kept line)).after [] cs) (replies_on state (kept (kept line ++ c ∷ [])) cs)) e)
 
 pub transcript_is : (bytes : List ℕ) → transcript bytes ≡ replies_on empty [] bytes
 transcript_is bytes = on_from empty [] bytes tt
@@ -99,7 +99,7 @@ no_line (b ∷ bs) e state line = by (λ none. no_line bs none state (kept (line
   where
     at : (t : Bool) → b == 10 ≡ t → cond t (b ∷ []) [] ≡ [] → whole_replies_on state (kept (line ++ b ∷ [])) bs ≡ [] → whole_replies_on state line (b ∷ bs) ≡ []
     at true is f rest = cc
-    at false is f rest = ap (λ (t : Bool). cond t (written (step state line).reply ++ whole_replies_on (step state line).after [] bs) (whole_replies_on state (kept (line ++ b ∷ [])) bs)) is ∙ rest
+    at false is f rest = ap (λ (t : Bool). cond t (written (step known state line).reply ++ whole_replies_on (step known state line).after [] bs) (whole_replies_on state (kept (line ++ b ∷ [])) bs)) is ∙ rest
 
     by : (whole_lines bs ≡ [] → whole_replies_on state (kept (line ++ b ∷ [])) bs ≡ []) → (ws : List ℕ) → whole_lines bs ≡ ws → before_lines b ws ≡ [] → whole_replies_on state line (b ∷ bs) ≡ []
     by rest [] is f = at (b == 10) refl f (rest is)
@@ -114,9 +114,9 @@ some_lines (b ∷ bs) w ws e state line = by (some_lines bs) (whole_lines bs) re
     more : (vs : List ℕ) → ((s : State) (l : List ℕ) → whole_replies_on s l bs ≡ replies_on s l vs) → whole_replies_on state line (b ∷ bs) ≡ replies_on state line (b ∷ vs)
     more vs rest = at (b == 10)
       where
-        at : (t : Bool) → cond t (written (step state line).reply ++ whole_replies_on (step state line).after [] bs) (whole_replies_on state (kept (line ++ b ∷ [])) bs)
-            ≡ cond t (written (step state line).reply ++ replies_on (step state line).after [] vs) (replies_on state (kept (line ++ b ∷ [])) vs)
-        at true = ap (λ ys. written (step state line).reply ++ ys) (rest (step state line).after [])
+        at : (t : Bool) → cond t (written (step known state line).reply ++ whole_replies_on (step known state line).after [] bs) (whole_replies_on state (kept (line ++ b ∷ [])) bs)
+            ≡ cond t (written (step known state line).reply ++ replies_on (step known state line).after [] vs) (replies_on state (kept (line ++ b ∷ [])) vs)
+        at true = ap (λ ys. written (step known state line).reply ++ ys) (rest (step known state line).after [])
         at false = rest state (kept (line ++ b ∷ []))
 
     ended : (t : Bool) → b == 10 ≡ t → cond t (b ∷ []) [] ≡ w ∷ ws → whole_lines bs ≡ [] → whole_replies_on state line (b ∷ bs) ≡ replies_on state line (w ∷ ws)
@@ -124,9 +124,9 @@ some_lines (b ∷ bs) w ws e state line = by (some_lines bs) (whole_lines bs) re
       where
         last : b == 10 ≡ true → whole_lines bs ≡ [] → whole_replies_on state line (b ∷ bs) ≡ replies_on state line (b ∷ [])
         last newline nothing =
-            ap (λ (t : Bool). cond t (written (step state line).reply ++ whole_replies_on (step state line).after [] bs) (whole_replies_on state (kept (line ++ b ∷ [])) bs)) newline
-            ∙ ap (λ ys. written (step state line).reply ++ ys) (no_line bs nothing (step state line).after [])
-            ∙ sym (ap (λ (t : Bool). cond t (written (step state line).reply ++ []) (replies_on state (kept (line ++ b ∷ [])) [])) newline)
+            ap (λ (t : Bool). cond t (written (step known state line).reply ++ whole_replies_on (step known state line).after [] bs) (whole_replies_on state (kept (line ++ b ∷ [])) bs)) newline
+            ∙ ap (λ ys. written (step known state line).reply ++ ys) (no_line bs nothing (step known state line).after [])
+            ∙ sym (ap (λ (t : Bool). cond t (written (step known state line).reply ++ []) (replies_on state (kept (line ++ b ∷ [])) [])) newline)
     ended false is f none = cc
 
     by : ((v : ℕ) (vs : List ℕ) → whole_lines bs ≡ v ∷ vs → (s : State) (l : List ℕ) → whole_replies_on s l bs ≡ replies_on s l (v ∷ vs)) → (vs : List ℕ) → whole_lines bs ≡ vs → before_lines b vs ≡ w ∷ ws

@@ -2,11 +2,12 @@
 use Rattle.std.proofs.Common.{◌≡◌, ℕ, ◌+◌, ◌≤◌, Bool, List, [], ◌∷◌, ◌++◌, length, Option, None, Some, Result, Ok, Err, OnOk, OnErr, cond, refl, sym, ◌∙◌, ap, subst, append_assoc, arith, length-append}
 use Rattle.std.proofs.lemmas.List.{append-nil, take_all}
 use Rattle.elem.specs.Outside.{Takes, Stays}
-use Rattle.view_steps.specs.Views.{Base}
-use Rattle.session.specs.State.{State}
-use Rattle.view_steps.specs.Limits.{ChangesUpTo}
-use Rattle.session.specs.Machine.{step, step_of}
-use Rattle.session.specs.Outcomes.{written}
+use Rattle.machine.specs.Bases.{Base}
+use Rattle.machine.specs.State.{State}
+use Rattle.machine.specs.RowCounts.{ChangesUpTo}
+use Rattle.machine.specs.Languages.{known}
+use Rattle.machine.specs.Lines.{step, step_of}
+use Rattle.machine.specs.Outcomes.{written}
 use Rattle.session.specs.Replying.{Wrote}
 use Rattle.session.specs.declared.faults.ExecFault.{ExecFault}
 use Rattle.session.specs.declared.faults.ExecFault.TheVariants.{WriteFault, NoMemory}
@@ -56,7 +57,7 @@ over_text : (at_end : State → List ℕ → List ℕ) (s : State) (line text mo
 unfolding replies_with
 over_text at_end s line [] more short one = ap (λ l. replies_with at_end s l more) (sym (ap kept (append-nil line) ∙ take_all 1025 line short))
 over_text at_end s line (b ∷ bs) more short one =
-    ap (λ (t : Bool). cond t (written (step s line).reply ++ replies_with at_end (step s line).after [] (bs ++ more)) (replies_with at_end s (kept (line ++ b ∷ [])) (bs ++ more))) one.0
+    ap (λ (t : Bool). cond t (written (step known s line).reply ++ replies_with at_end (step known s line).after [] (bs ++ more)) (replies_with at_end s (kept (line ++ b ∷ [])) (bs ++ more))) one.0
     ∙ over_text at_end s (kept (line ++ b ∷ [])) bs more (kept_short (line ++ b ∷ [])) one.1
     ∙ ap (λ l. replies_with at_end s l more) (kept_more (line ++ b ∷ []) bs ∙ ap kept (append_assoc line (b ∷ []) bs))
 
@@ -65,11 +66,11 @@ text_fed s line text told short one = record { text = []; takes = takes_none tol
 
 -- the replies behind a line that a text ends, where it is executed as a line that reads the same
 over_line : (at_end : State → List ℕ → List ℕ) (s : State) (line text seen more : List ℕ) → length line ≤ 1025 → IsOneLine text → line_of seen ≡ line_of (line ++ text)
-    → replies_with at_end s line ((text ++ 10 ∷ []) ++ more) ≡ written (step s seen).reply ++ replies_with at_end (step s seen).after [] more
+    → replies_with at_end s line ((text ++ 10 ∷ []) ++ more) ≡ written (step known s seen).reply ++ replies_with at_end (step known s seen).after [] more
 unfolding replies_with
 over_line at_end s line text seen more short one same =
     ap (replies_with at_end s line) (append_assoc text (10 ∷ []) more) ∙ over_text at_end s line text (10 ∷ more) short one
-    ∙ ap (λ t. written (step_of s t).reply ++ replies_with at_end (step_of s t).after [] more) (read_kept (line ++ text) ∙ sym same)
+    ∙ ap (λ t. written (step_of known s t).reply ++ replies_with at_end (step_of known s t).after [] more) (read_kept (line ++ text) ∙ sym same)
 
 -- a line as it is executed: what came of it before, the text that ends it, and what was handed over
 pub record IsLine (line text seen : List ℕ) : Type 0 where
@@ -78,24 +79,24 @@ pub record IsLine (line text seen : List ℕ) : Type 0 where
   pub same : line_of seen ≡ line_of (line ++ text)
 
 pub line_fed : (r : Result (Unit {0}) ExecFault) (s t : State) (line text seen next : List ℕ) (old new : Option (List ℕ)) → IsLine line text seen → next ≡ [] →
-    OnOk r (t ≡ (step s seen).after) → Wrote r old new (written (step s seen).reply) → OnOk r (Fed s t line next (text ++ 10 ∷ []) old new)
+    OnOk r (t ≡ (step known s seen).after) → Wrote r old new (written (step known s seen).reply) → OnOk r (Fed s t line next (text ++ 10 ∷ []) old new)
 line_fed (Ok x) s t line text seen next old new l none after wrote = record {
-  text = written (step s seen).reply;
+  text = written (step known s seen).reply;
   takes = wrote;
   rest = λ at_end more. over_line at_end s line text seen more l.short l.one l.same
-      ∙ ap (λ u. written (step s seen).reply ++ replies_with at_end u [] more) (sym after)
-      ∙ ap (λ n. written (step s seen).reply ++ replies_with at_end t n more) (sym none);
+      ∙ ap (λ u. written (step known s seen).reply ++ replies_with at_end u [] more) (sym after)
+      ∙ ap (λ n. written (step known s seen).reply ++ replies_with at_end t n more) (sym none);
 }
 line_fed (Err e) s t line text seen next old new l none after wrote = tt
 
-pub line_front : (r : Result (Unit {0}) ExecFault) (s : State) (line text seen : List ℕ) (old new : Option (List ℕ)) → IsLine line text seen → Wrote r old new (written (step s seen).reply) → OnErr r (FedFront s line (text ++ 10 ∷ []) old new)
+pub line_front : (r : Result (Unit {0}) ExecFault) (s : State) (line text seen : List ℕ) (old new : Option (List ℕ)) → IsLine line text seen → Wrote r old new (written (step known s seen).reply) → OnErr r (FedFront s line (text ++ 10 ∷ []) old new)
 line_front (Ok x) s line text seen old new l wrote = tt
 line_front (Err WriteFault) s line text seen old new l wrote = record {
   text = wrote.0;
   takes = wrote.2;
   rest = λ more. (
-    (wrote.1).0 ++ replies_on (step s seen).after [] more,
-    over_line last_reply s line text seen more l.short l.one l.same ∙ ap (λ ys. ys ++ replies_on (step s seen).after [] more) (wrote.1).1 ∙ append_assoc wrote.0 (wrote.1).0 (replies_on (step s seen).after [] more),
+    (wrote.1).0 ++ replies_on (step known s seen).after [] more,
+    over_line last_reply s line text seen more l.short l.one l.same ∙ ap (λ ys. ys ++ replies_on (step known s seen).after [] more) (wrote.1).1 ∙ append_assoc wrote.0 (wrote.1).0 (replies_on (step known s seen).after [] more),
   );
 }
 line_front (Err NoMemory) s line text seen old new l wrote = record { text = []; takes = stays_takes old new wrote; rest = λ more. (replies_on s line ((text ++ 10 ∷ []) ++ more), refl) }

@@ -4,7 +4,7 @@ use Rattle.std.specs.Result.{is_err}
 use Rattle.std.proofs.lemmas.Bool.Decides.{leb_tells}
 use Rattle.std.proofs.lemmas.List.{append-nil, take-append-le, take_all}
 use Rattle.elem.specs.Outside.{Takes, TakesFront, Stays, Gives, IsToldEmpty, IsFront}
-use Rattle.session.specs.State.{State, empty}
+use Rattle.machine.specs.State.{State, empty}
 use Rattle.shelf.specs.Transcript.{transcript, whole_lines}
 use Rattle.session.specs.Replying.{Wrote}
 use Rattle.session.specs.declared.faults.ExecFault.{ExecFault}

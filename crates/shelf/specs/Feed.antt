@@ -1,9 +1,10 @@
 -- A script that comes in pieces.
 use Rattle.std.specs.Prelude.{◌≡◌, ℕ, ◌==◌, false, List, [], ◌∷◌, ◌++◌, length, take, Option, Some, if◌then◌else◌}
 use Rattle.elem.specs.Outside.{Takes, IsFront}
-use Rattle.session.specs.State.{State, empty}
-use Rattle.session.specs.Machine.{step}
-use Rattle.session.specs.Outcomes.{written}
+use Rattle.machine.specs.State.{State, empty}
+use Rattle.machine.specs.Languages.{known}
+use Rattle.machine.specs.Lines.{step}
+use Rattle.machine.specs.Outcomes.{written}
 
 -- what is kept of a line: no more than shows that it is too long
 abbrev pub kept : List ℕ → List ℕ
@@ -17,7 +18,7 @@ IsOneLine (b ∷ bs) = (b == 10 ≡ false) × IsOneLine bs
 -- what is said at the end of a script, where this came of a last line: its reply, or nothing where only whole lines count
 abbrev pub last_reply : State → List ℕ → List ℕ
 last_reply state [] = []
-last_reply state (b ∷ bs) = written (step state (b ∷ bs)).reply
+last_reply state (b ∷ bs) = written (step known state (b ∷ bs)).reply
 
 abbrev pub no_reply : State → List ℕ → List ℕ
 no_reply state line = []
@@ -26,7 +27,7 @@ no_reply state line = []
 unfoldable pub replies_with : (State → List ℕ → List ℕ) → State → List ℕ → List ℕ → List ℕ
 replies_with at_end state line [] = at_end state line
 replies_with at_end state line (b ∷ bs) =
-    if b == 10 then written (step state line).reply ++ replies_with at_end (step state line).after [] bs else replies_with at_end state (kept (line ++ b ∷ [])) bs
+    if b == 10 then written (step known state line).reply ++ replies_with at_end (step known state line).after [] bs else replies_with at_end state (kept (line ++ b ∷ [])) bs
 
 abbrev pub replies_on : State → List ℕ → List ℕ → List ℕ
 replies_on = replies_with last_reply

@@ -1,8 +1,7 @@
 -- What a run of a script leaves.
-use Rattle.std.specs.Prelude.{◌≡◌, ℕ, ◌^◌, ◌<◌, ◌↔◌, List, [], ◌∷◌, ◌++◌, length, take, Option, codes}
+use Rattle.std.specs.Prelude.{◌≡◌, ℕ, ◌^◌, ◌<◌, ◌↔◌, List, [], ◌∷◌, ◌++◌, length, take, Option, codes, Result, Ok, Err}
 use Rattle.elem.specs.Outside.{Takes, TakesFront}
 use Rattle.shelf.specs.Transcript.{transcript, whole_lines}
-use Rattle.std.specs.Prelude.{Result, Ok, Err}
 use Rattle.session.specs.declared.faults.ExecFault.{ExecFault}
 use Rattle.session.specs.declared.faults.ExecFault.TheVariants as faults
 use Rattle.shelf.specs.declared.status.Status.{Status}

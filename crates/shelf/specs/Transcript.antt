@@ -1,9 +1,10 @@
 -- What a script writes.
 use Rattle.std.specs.Prelude.{ℕ, ◌==◌, List, [], ◌∷◌, ◌++◌, if◌then◌else◌}
 use Rattle.std.specs.List.{onto_first}
-use Rattle.session.specs.State.{State, empty}
-use Rattle.session.specs.Machine.{step}
-use Rattle.session.specs.Outcomes.{written}
+use Rattle.machine.specs.State.{State, empty}
+use Rattle.machine.specs.Languages.{known}
+use Rattle.machine.specs.Lines.{step}
+use Rattle.machine.specs.Outcomes.{written}
 
 -- The lines are the pieces between newlines, and a last piece that is not empty.
 abbrev pub lines_of : List ℕ → List (List ℕ)
@@ -13,7 +14,7 @@ lines_of (b ∷ bs) = if b == 10 then [] ∷ lines_of bs else onto_first b (line
 -- the replies to the lines, from a state on
 unfoldable pub replies : State → List (List ℕ) → List ℕ
 replies state [] = []
-replies state (line ∷ lines) = written (step state line).reply ++ replies (step state line).after lines
+replies state (line ∷ lines) = written (step known state line).reply ++ replies (step known state line).after lines
 
 -- the replies to a script
 abbrev pub transcript : List ℕ → List ℕ

@@ -1,7 +1,7 @@
 //! A script that comes in pieces: each line is executed as its newline comes.
 ghost use Rattle.std.specs.Prelude.{◌≡◌, ℕ, ◌+◌, ◌^◌, ◌-◌, ◌≤◌, ◌++◌, ◌∷◌, [], length, IfNone, IfSome, OnOk, OnErr, Err};
 ghost use Rattle.elem.specs.Outside.{Rose};
-ghost use Rattle.view_steps.specs.Limits.{ChangesUpTo};
+ghost use Rattle.machine.specs.RowCounts.{ChangesUpTo};
 ghost use Rattle.session.specs.Replying.{Wrote};
 ghost use Rattle.shelf.specs.Feed.{Fed, FedFront, FedWhole, IsOneLine, replies_on};
 

@@ -1,7 +1,7 @@
 //! The top call.
 ghost use Rattle.std.specs.Prelude.{◌≡◌, ◌≢◌, ℕ, ◌+◌, ◌-◌, ◌^◌, ◌<◌, ◌≤◌, ◌↔◌, min, List, [], ◌∷◌, length, Option, None, Some, Ok, Err};
 ghost use Rattle.elem.specs.Outside.{Rose, Stays};
-ghost use Rattle.session.specs.State.{empty};
+ghost use Rattle.machine.specs.State.{empty};
 ghost use Rattle.shelf.specs.Headline.{IsRun, Ran, status_of};
 
 use crate::feeding::{feed, finish};

@@ -4,18 +4,22 @@ use Rattle.std.specs.Prelude.{filter, slice_get, Option, Some, option_map}
 use Rattle.std.specs.List.{IsDistinct}
 use Rattle.std.proofs.lemmas.Simd.{map-map}
 use Rattle.elem.specs.Elements.{same}
-use Rattle.view_steps.specs.declared.items.Item.{Item}
+use Rattle.vocabulary.specs.declared.items.Item.{Item}
 use Rattle.view_steps.specs.declared.lanes.Lane.{Lane}
 use Rattle.view_steps.specs.declared.lanes.Lane.TheVariants.{All, OfKey, Within, Nothing}
-use Rattle.view_steps.specs.declared.places.Found.{Found}
+use Rattle.view_laws.specs.declared.places.Found.{Found}
 use Rattle.view_steps.specs.declared.places.Place.{Place}
 use Rattle.view_steps.specs.declared.places.Place.TheVariants.{Key}
-use Rattle.view_steps.specs.Items.{key_of}
-use Rattle.view_steps.specs.Kinds.{shape_of_kind}
-use Rattle.view_steps.specs.Shapes.{is_keyed}
-use Rattle.view_steps.specs.Views.{World, base, base_at, Base}
-use Rattle.view_steps.specs.Places.{found_row, places_of, key_place, numbered, row_at, HasKeys}
-use Rattle.view_steps.specs.Lanes.{takes, takes_at, turned_if, line, line_of, takes_key}
+use Rattle.vocabulary.specs.Items.{key_of}
+use Rattle.vocabulary.specs.Kinds.{shape_of_kind}
+use Rattle.vocabulary.specs.Shapes.{is_keyed}
+use Rattle.machine.specs.Bases.{World, Base}
+use Rattle.machine.specs.Leaves.{Leaf, leaf_at}
+use Rattle.machine.specs.Views.{base}
+use Rattle.view_laws.specs.Places.{found_row}
+use Rattle.view_steps.specs.Places.{places_of, key_place, numbered, row_at, HasKeys}
+use Rattle.view_steps.specs.Lanes.{takes, takes_at, line, line_of, takes_key}
+use Rattle.view_laws.specs.Lanes.{turned_if}
 use Rattle.view_steps.proofs.ListLemmas.{filter-all, filter-map, filter-same}
 use Rattle.view_steps.proofs.LabelLemmas.{row_of_key}
 
@@ -42,13 +46,13 @@ places_keyed it h = ap (λ b. cond b (map key_place it.rows) (numbered 0 it.rows
 places_numbered : (it : Base) → is_keyed (shape_of_kind it.kind) ≡ false → places_of it ≡ numbered 0 it.rows
 places_numbered it h = ap (λ b. cond b (map key_place it.rows) (numbered 0 it.rows)) h
 
-pub line_of_keys : (world : World) (b : ℕ) (lane : Lane) (back : Bool) → is_keyed (shape_of_kind (base_at world b).kind) ≡ true → HasKeys (base_at world b)
-    → line world (base b) lane back ≡ turned_if back (map key_place (filter (takes lane) (base_at world b).rows))
-line_of_keys world b lane back keyed keys =
-    ap (line_of lane back (at_keys (base_at world b).rows)) (places_keyed (base_at world b) keyed) ∙ keys_line (base_at world b).rows (keys keyed) lane back
+pub line_of_keys : (world : World) (l : Leaf) (lane : Lane) (back : Bool) → is_keyed (shape_of_kind (leaf_at world l).kind) ≡ true → HasKeys (leaf_at world l)
+    → line world (base l) lane back ≡ turned_if back (map key_place (filter (takes lane) (leaf_at world l).rows))
+line_of_keys world l lane back keyed keys =
+    ap (line_of lane back (at_keys (leaf_at world l).rows)) (places_keyed (leaf_at world l) keyed) ∙ keys_line (leaf_at world l).rows (keys keyed) lane back
 
-pub line_of_list : (world : World) (b : ℕ) (back : Bool) → is_keyed (shape_of_kind (base_at world b).kind) ≡ false → line world (base b) All back ≡ turned_if back (numbered 0 (base_at world b).rows)
-line_of_list world b back h = ap (turned_if back) (filter-all (places_of (base_at world b)) ∙ places_numbered (base_at world b) h)
+pub line_of_list : (world : World) (l : Leaf) (back : Bool) → is_keyed (shape_of_kind (leaf_at world l).kind) ≡ false → line world (base l) All back ≡ turned_if back (numbered 0 (leaf_at world l).rows)
+line_of_list world l back h = ap (turned_if back) (filter-all (places_of (leaf_at world l)) ∙ places_numbered (leaf_at world l) h)
 
 -- ---- a lane looks at keys alone
 
@@ -64,11 +68,11 @@ keys_taken lane rows =
     ∙ ap (λ (q : Item → Bool). map Key (map key_of (filter q rows))) (λ i row. takes_by_key lane row i)
     ∙ ap (map Key) (sym (filter-map (takes_key lane) key_of rows))
 
-pub line_of_same_keys : (before after : World) (b : ℕ) (lane : Lane) (back : Bool) → (base_at after b).kind ≡ (base_at before b).kind → is_keyed (shape_of_kind (base_at before b).kind) ≡ true
-    → HasKeys (base_at before b) → map key_of (base_at after b).rows ≡ map key_of (base_at before b).rows → line after (base b) lane back ≡ line before (base b) lane back
-line_of_same_keys before after b lane back kind keyed keys same_keys =
-    let keyed_after : is_keyed (shape_of_kind (base_at after b).kind) ≡ true = ap (λ k. is_keyed (shape_of_kind k)) kind ∙ keyed in
-    let keys_after : HasKeys (base_at after b) = λ h. subst (IsDistinct same) (sym same_keys) (keys keyed) in
-    line_of_keys after b lane back keyed_after keys_after
-    ∙ ap (turned_if back) (keys_taken lane (base_at after b).rows ∙ ap (λ ks. map Key (filter (takes_key lane) ks)) same_keys ∙ sym (keys_taken lane (base_at before b).rows))
-    ∙ sym (line_of_keys before b lane back keyed keys)
+pub line_of_same_keys : (before after : World) (l : Leaf) (lane : Lane) (back : Bool) → (leaf_at after l).kind ≡ (leaf_at before l).kind → is_keyed (shape_of_kind (leaf_at before l).kind) ≡ true
+    → HasKeys (leaf_at before l) → map key_of (leaf_at after l).rows ≡ map key_of (leaf_at before l).rows → line after (base l) lane back ≡ line before (base l) lane back
+line_of_same_keys before after l lane back kind keyed keys same_keys =
+    let keyed_after : is_keyed (shape_of_kind (leaf_at after l).kind) ≡ true = ap (λ k. is_keyed (shape_of_kind k)) kind ∙ keyed in
+    let keys_after : HasKeys (leaf_at after l) = λ h. subst (IsDistinct same) (sym same_keys) (keys keyed) in
+    line_of_keys after l lane back keyed_after keys_after
+    ∙ ap (turned_if back) (keys_taken lane (leaf_at after l).rows ∙ ap (λ ks. map Key (filter (takes_key lane) ks)) same_keys ∙ sym (keys_taken lane (leaf_at before l).rows))
+    ∙ sym (line_of_keys before l lane back keyed keys)

@@ -1,9 +1,10 @@
 -- Change numbers: no edit raises one by more than one.
 use Rattle.std.proofs.Common.{ℕ, zero, suc, ◌+◌, ◌≤◌, Bool, true, false, cond, [], ◌∷◌, arith, ◌<◌, ◌^◌, ◌-◌}
 use Rattle.std.specs.Prelude.{slice_set}
-use Rattle.view_steps.specs.Edits.{Edit, edited, world_after}
-use Rattle.view_steps.specs.Limits.{ChangesUpTo}
-use Rattle.view_steps.specs.Views.{Base, World, base_at}
+use Rattle.machine.specs.Edits.{Edit, edited}
+use Rattle.machine.specs.RowCounts.{ChangesUpTo}
+use Rattle.machine.specs.Bases.{Base, World, base_at}
+use Rattle.view_steps.specs.KnownViews.{edited_at}
 
 -- no base has been changed more often than the most
 pub change_at : (most : ℕ) (world : World) (b : ℕ) → ChangesUpTo most world → (base_at world b).change ≤ most
@@ -26,7 +27,7 @@ changed_base most [] b it h le = tt
 changed_base most (old ∷ world) zero it h le = (le, up most world h.1)
 changed_base most (old ∷ world) (suc b) it h le = let e : old.change ≤ most = h.0 in (omega arith, changed_base most world b it h.1 le)
 
-pub edited_base : (most : ℕ) (world : World) (b : ℕ) (edit : Edit) → ChangesUpTo most world → ChangesUpTo (most + 1) (world_after world b edit)
+pub edited_base : (most : ℕ) (world : World) (b : ℕ) (edit : Edit) → ChangesUpTo most world → ChangesUpTo (most + 1) (edited_at world b edit)
 edited_base most world b edit h =
     let le : (base_at world b).change ≤ most = change_at most world b h in
     changed_base most world b (edited (base_at world b) edit) h (omega (arith, one_more))

@@ -1,69 +1,28 @@
 -- What a view shows after one row came or went.
-use Rattle.std.proofs.Common.{◌≡◌, List, [], ◌∷◌, ◌++◌, map, reverse, refl, ap, sym, ◌∙◌, Bool, true, false, cond, ◌&&◌}
+use Rattle.std.proofs.Common.{◌≡◌, List, [], ◌∷◌, ◌++◌, map, reverse, refl, ap, ◌∙◌, Bool, true, false, cond}
 use Rattle.std.specs.Prelude.{filter, not, Some, if◌then◌else◌}
 use Rattle.std.proofs.lemmas.List.{reverse-append, map-append, append_assoc}
 use Rattle.std.proofs.lemmas.List.Elements.{filter-append}
-use Rattle.std.proofs.lemmas.Option.{same_Some, cond_some, option_and_then_some}
-use Rattle.view_steps.specs.declared.items.Item.{Item}
-use Rattle.view_steps.specs.declared.places.Found.{Found}
-use Rattle.view_steps.specs.declared.steps.PlainStep.TheVariants.{Reverse, KeySet, Values, EntrySet, Descending, Unmodifiable}
-use Rattle.view_steps.specs.declared.steps.Step.{Step}
-use Rattle.view_steps.specs.declared.steps.Step.TheVariants as step
-use Rattle.view_steps.specs.declared.steps.Flags.{Flags}
-use Rattle.view_steps.specs.declared.shapes.Shape.{Shape}
-use Rattle.view_steps.specs.Lanes.{turned_if}
-use Rattle.view_steps.specs.Steps.{family_of, item_of, passes, lifted, flags_after}
-use Rattle.view_steps.specs.Views.{World, View, base, over, lift, flags_at, shape_at, turned, turns}
-use Rattle.view_steps.specs.RowForm.{RowForm, form_over, form_of, found_row_by, shows, shown_by, IsShownAs, one_more, ShownAround, FoundAround}
+use Rattle.vocabulary.specs.declared.items.Item.{Item}
+use Rattle.view_laws.specs.declared.places.Found.{Found}
+use Rattle.vocabulary.specs.declared.steps.PlainStep.TheVariants.{Reverse, KeySet, Values, EntrySet, Keys, Descending, Inverse, Transpose, ForMap, Unmodifiable}
+use Rattle.vocabulary.specs.declared.steps.Step.{Step}
+use Rattle.vocabulary.specs.declared.steps.Step.TheVariants as step
+use Rattle.view_laws.specs.Lanes.{turned_if}
+use Rattle.vocabulary.specs.Steps.{family_of}
+use Rattle.machine.specs.Bases.{World}
+use Rattle.machine.specs.Views.{View, base, both, over, lift, flags_at}
+use Rattle.view_laws.proofs.LiftLemmas as laws
+use Rattle.view_steps.specs.KnownViews.{is_known_view}
+use Rattle.view_steps.specs.Turning.{turned, turns}
+use Rattle.view_laws.specs.RowForm.{RowForm, form_over, form_of, found_row_by, shows, shown_by, IsShownAs}
+use Rattle.view_steps.specs.RowHits.{one_more, ShownAround, FoundAround}
+use Rattle.view_steps.proofs.KnownLemmas.{has_all_room, known_by_row}
 
 -- ---- adding
 
--- a step that hides what does not pass, or leaves it out
-hidden_lift : (it : Step) (f : RowForm) (row item below : Item) → lifted it item ≡ Some below → IsShownAs f row below
-    → IsShownAs (record { takes = f.takes; sees = λ r. f.sees r && passes it (f.item r); item = f.item; turned = f.turned }) row item
-hidden_lift it f row item below is s =
-    let parts = cond_some (passes it item) item below is in
-    let e : f.item row ≡ item = s.same ∙ sym parts.1 in
-    record { taken = s.taken; seen = rw (s.seen, e) parts.0; same = e }
-
-cut_lift : (it : Step) (f : RowForm) (row item below : Item) → lifted it item ≡ Some below → IsShownAs f row below → item_of it item ≡ item
-    → IsShownAs (record { takes = λ r. f.takes r && passes it (f.item r); sees = f.sees; item = λ r. item_of it (f.item r); turned = f.turned }) row item
-cut_lift it f row item below is s same =
-    let parts = cond_some (passes it item) item below is in
-    let e : f.item row ≡ item = s.same ∙ sym parts.1 in
-    record { taken = rw (s.taken, e) parts.0; seen = s.seen; same = ap (item_of it) e ∙ same }
-
--- each step that allows adding: what shows the item below it as itself shows the item above it so
-step_lift : (of : Shape) (below : Flags) (it : Step) (f : RowForm) (row item under : Item) → (flags_after of it below).add ≡ true → lifted it item ≡ Some under → IsShownAs f row under
-    → IsShownAs (form_over (family_of it) it f) row item
-step_lift of below (step.Plain Reverse) f row item under ok is s = record { taken = s.taken; seen = s.seen; same = s.same ∙ sym (same_Some item under is) }
-step_lift of below (step.Plain Descending) f row item under ok is s = record { taken = s.taken; seen = s.seen; same = s.same ∙ sym (same_Some item under is) }
-step_lift of below (step.Filter word p) f row item under ok is s = hidden_lift (step.Filter word p) f row item under is s
-step_lift of below (step.FilterPairs q) f row item under ok is s = hidden_lift (step.FilterPairs q) f row item under is s
-step_lift of below (step.Within order w) f row item under ok is s = cut_lift (step.Within order w) f row item under is s refl
-step_lift of below (step.Plain KeySet) f row item under ok is s = absurd (cc)
-step_lift of below (step.Plain Values) f row item under ok is s = absurd (cc)
-step_lift of below (step.Plain EntrySet) f row item under ok is s = absurd (cc)
-step_lift of below (step.Plain Unmodifiable) f row item under ok is s = absurd (cc)
-step_lift of below (step.Change word f) g row item under ok is s = absurd (cc)
-
--- what a step over a view allows, the view below it allows
-pub adds_below : (of : Shape) (below : Flags) (it : Step) → (flags_after of it below).add ≡ true → below.add ≡ true
-adds_below of below (step.Plain Reverse) ok = ok
-adds_below of below (step.Plain Descending) ok = ok
-adds_below of below (step.Filter word p) ok = ok
-adds_below of below (step.FilterPairs q) ok = ok
-adds_below of below (step.Within order w) ok = ok
-adds_below of below (step.Plain KeySet) ok = absurd (cc)
-adds_below of below (step.Plain Values) ok = absurd (cc)
-adds_below of below (step.Plain EntrySet) ok = absurd (cc)
-adds_below of below (step.Plain Unmodifiable) ok = absurd (cc)
-adds_below of below (step.Change word f) ok = absurd (cc)
-
-pub lift_law : (world : World) (v : View) (item row : Item) → (flags_at world v).add ≡ true → lift v item ≡ Some row → IsShownAs (form_of v) row item
-lift_law world (base b) item row ok is = record { taken = refl; seen = refl; same = sym (same_Some item row is) }
-lift_law world (over it v) item row ok is =
-    option_and_then_some (lift v) (lifted it item) row is (λ below first rest. step_lift (shape_at world v) (flags_at world v) it (form_of v) row item below ok first (lift_law world v below row (adds_below (shape_at world v) (flags_at world v) it ok) rest))
+pub lift_law : (world : World) (v : View) → is_known_view v ≡ true → (item row : Item) → (flags_at world v).add ≡ true → lift v item ≡ Some row → IsShownAs (form_of v) row item
+lift_law world v known item row ok is = laws.lift_law world v item row (known_by_row world v known) ok (has_all_room v item known) is
 
 -- ---- one row among others
 
@@ -88,26 +47,36 @@ over_turned (step.Plain Reverse) f = refl
 over_turned (step.Plain KeySet) f = refl
 over_turned (step.Plain Values) f = refl
 over_turned (step.Plain EntrySet) f = refl
+over_turned (step.Plain Keys) f = refl
 over_turned (step.Plain Descending) f = refl
+over_turned (step.Plain Inverse) f = refl
+over_turned (step.Plain Transpose) f = refl
+over_turned (step.Plain ForMap) f = refl
 over_turned (step.Plain Unmodifiable) f = refl
 over_turned (step.Filter word p) f = refl
 over_turned (step.FilterPairs q) f = refl
 over_turned (step.Change word g) f = refl
 over_turned (step.Within order w) f = refl
+over_turned (step.At side k n) f = refl
+over_turned (step.Group side made) f = refl
+over_turned (step.Sub n s) f = refl
+over_turned (step.Partition n) f = refl
+over_turned (step.Piece n s) f = refl
 
 -- a form is turned where its view is
-form_turned : (v : View) → (form_of v).turned ≡ turned v
-form_turned (base b) = refl
+pub form_turned : (v : View) → (form_of v).turned ≡ turned v
+form_turned (base l) = refl
 form_turned (over it v) = over_turned it (form_of v) ∙ ap (λ t. if turns it then not t else t) (form_turned v)
+form_turned (both word v u) = refl
 
 shown_one : (f : RowForm) (row item : Item) → IsShownAs f row item → shows f row ≡ true
 shown_one f row item s = rw (s.taken, s.seen) refl
 
-pub add_law : (world : World) (v : View) (item row : Item) (rows : List Item) → (flags_at world v).add ≡ true → lift v item ≡ Some row
+pub add_law : (world : World) (v : View) (item row : Item) (rows : List Item) → is_known_view v ≡ true → (flags_at world v).add ≡ true → lift v item ≡ Some row
     → shown_by (form_of v) (rows ++ row ∷ []) ≡ one_more (turned v) (shown_by (form_of v) rows) item
-add_law world v item row rows ok is =
+add_law world v item row rows known ok is =
     let f : RowForm = form_of v in
-    let s : IsShownAs f row item = lift_law world v item row ok is in
+    let s : IsShownAs f row item = lift_law world v known item row ok is in
     let more : items f (rows ++ row ∷ []) ≡ items f rows ++ item ∷ [] =
     items-append f rows (row ∷ []) ∙ ap (λ is. items f rows ++ is) (items-shown f row [] (shown_one f row item s) ∙ ap (λ k. k ∷ []) s.same) in
     ap (turned_if f.turned) more ∙ turned_more f.turned (items f rows) item ∙ ap (λ t. one_more t (shown_by f rows) item) (form_turned v)

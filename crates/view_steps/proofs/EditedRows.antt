@@ -5,18 +5,22 @@ use Rattle.std.specs.List.{remove}
 use Rattle.std.proofs.lemmas.Bool.Decides.{nat_tests}
 use Rattle.elem.specs.declared.elements.Elem.{Elem}
 use Rattle.elem.specs.Elements.{same}
-use Rattle.view_steps.specs.declared.edits.Spot.{Spot}
-use Rattle.view_steps.specs.declared.items.Item.{Item}
+use Rattle.vocabulary.specs.declared.edits.Spot.{Spot}
+use Rattle.vocabulary.specs.declared.items.Item.{Item}
 use Rattle.view_steps.specs.declared.places.Place.{Place}
 use Rattle.view_steps.specs.declared.places.Place.TheVariants.{Index, Key}
-use Rattle.view_steps.specs.declared.refusals.Refusal.{Refusal}
-use Rattle.view_steps.specs.declared.refusals.Refusal.TheVariants.{Limit, NoMemory}
-use Rattle.view_steps.specs.Edits.{adding, removing, edited, goes, placed_all, with_rows, without_rows, Edit, world_after}
-use Rattle.view_steps.specs.Views.{Base, World, base_at}
-use Rattle.view_steps.specs.Items.{key_of}
+use Rattle.vocabulary.specs.declared.refusals.Refusal.{Refusal}
+use Rattle.vocabulary.specs.declared.refusals.Refusal.TheVariants.{Limit, NoMemory}
+use Rattle.machine.specs.Edits.{adding, coming, removing, edited, goes, placed_all, with_rows, without_rows, Edit}
+use Rattle.machine.specs.Bases.{Base, World, base_at}
+use Rattle.vocabulary.specs.Items.{key_of}
 use Rattle.view_steps.specs.Places.{IsRowAt}
-use Rattle.view_steps.specs.Limits.{rows_in, most_rows}
+use Rattle.machine.specs.RowCounts.{rows_in}
+use Rattle.vocabulary.specs.Limits.{most_rows}
+use Rattle.vocabulary.specs.Known.{is_known_kind}
+use Rattle.view_steps.specs.KnownViews.{edited_at}
 use Rattle.view_steps.proofs.CountLemmas.{rows_in-written}
+use Rattle.view_steps.proofs.KindLemmas.{no_bimap, no_keys}
 use Rattle.view_steps.proofs.ListLemmas.{or-false}
 
 pub without_none : (n : ℕ) (rows : List Item) → without_rows [] n rows ≡ rows
@@ -26,16 +30,25 @@ without_none n (row ∷ rows) = ap (λ rs. row ∷ rs) (without_none (n + 1) row
 pub not_less : (n : ℕ) → nat_lt n n ≡ false
 not_less n = grind (arith, nat_tests)
 
-pub edited_adding : (it : Base) (spot : Spot) (rows : List Item) → edited it (adding spot rows) ≡ with_rows it (placed_all it.kind spot it.rows rows) (nat_lt (length it.rows) (length (placed_all it.kind spot it.rows rows)))
-edited_adding it spot rows =
-    ap (λ (left : List Item). with_rows it (placed_all it.kind spot left rows) (nat_lt (length left) (length it.rows) || nat_lt (length left) (length (placed_all it.kind spot left rows)))) (without_none 0 it.rows)
-    ∙ ap (λ (t : Bool). with_rows it (placed_all it.kind spot it.rows rows) (t || nat_lt (length it.rows) (length (placed_all it.kind spot it.rows rows)))) (not_less (length it.rows))
+-- a base of a known kind keeps no keys, and is no bimap
+pub edited_rows : (it : Base) → is_known_kind it.kind ≡ true → (edit : Edit) → (left after : List Item) → without_rows edit.gone 0 it.rows ≡ left → placed_all it.kind left edit.added ≡ after
+    → edited it edit ≡ with_rows it after it.keys (nat_lt (length left) (length it.rows) || nat_lt (length left) (length after))
+edited_rows it known edit left after left_is after_is =
+    rw (left_is, after_is, no_keys it.kind known, no_bimap it.kind known)
+    (ap (with_rows it after it.keys) (or-false (nat_lt (length left) (length it.rows) || nat_lt (length left) (length after))))
 
-pub edited_removing : (it : Base) (gone : List ℕ) → edited it (removing gone) ≡ with_rows it (without_rows gone 0 it.rows) (nat_lt (length (without_rows gone 0 it.rows)) (length it.rows))
-edited_removing it gone =
+pub edited_adding : (it : Base) → is_known_kind it.kind ≡ true → (spot : Spot) (rows : List Item) → edited it (adding spot rows) ≡ with_rows it (placed_all it.kind it.rows (coming spot rows)) it.keys (nat_lt (length it.rows) (length (placed_all it.kind it.rows (coming spot rows))))
+edited_adding it known spot rows =
+    let after : List Item = placed_all it.kind it.rows (coming spot rows) in
+    edited_rows it known (adding spot rows) it.rows after (without_none 0 it.rows) refl
+    ∙ ap (λ (t : Bool). with_rows it after it.keys (t || nat_lt (length it.rows) (length after))) (not_less (length it.rows))
+
+pub edited_removing : (it : Base) → is_known_kind it.kind ≡ true → (gone : List ℕ) → edited it (removing gone) ≡ with_rows it (without_rows gone 0 it.rows) it.keys (nat_lt (length (without_rows gone 0 it.rows)) (length it.rows))
+edited_removing it known gone =
     let left : List Item = without_rows gone 0 it.rows in
-    ap (λ (t : Bool). with_rows it left (nat_lt (length left) (length it.rows) || t)) (not_less (length left))
-    ∙ ap (λ (t : Bool). with_rows it left t) (or-false (nat_lt (length left) (length it.rows)))
+    edited_rows it known (removing gone) left left refl refl
+    ∙ ap (λ (t : Bool). with_rows it left it.keys (nat_lt (length left) (length it.rows) || t)) (not_less (length left))
+    ∙ ap (λ (t : Bool). with_rows it left it.keys t) (or-false (nat_lt (length left) (length it.rows)))
 
 pub without_few : (gone : List ℕ) (n : ℕ) (rows : List Item) → length (without_rows gone n rows) ≤ length rows
 without_few gone n [] = omega arith
@@ -61,13 +74,15 @@ numbers_at rows (Index i) = (i ∷ [], record { number = i; only = refl; index =
 numbers_at rows (Key k) = let found = found_number k rows in (found.0 ∷ [], record { number = found.0; only = refl; index = tt; row = found.1 })
 
 -- more rows than there is room for are too many
-rows_too_many : (world : World) (b room : ℕ) (edit : Edit) → b < length world → room + rows_in world ≡ most_rows → length (base_at world b).rows + room < length (edited (base_at world b) edit).rows → most_rows < rows_in (world_after world b edit)
-rows_too_many world b room edit lt left more = omega (arith, rows_in-written world b (edited (base_at world b) edit) lt, left, more)
+rows_too_many : (world : World) (b room : ℕ) (edit : Edit) → is_known_kind (base_at world b).kind ≡ true → b < length world → room + rows_in world ≡ most_rows → length (base_at world b).rows + room < length (edited (base_at world b) edit).rows → most_rows < rows_in (edited_at world b edit)
+rows_too_many world b room edit known lt left more =
+    omega (arith, rows_in-written world b (edited (base_at world b) edit) lt known known, left, more)
 
-pub limit_cause : (world : World) (b room : ℕ) (edit : Edit) (why : Refusal) → b < length world → room + rows_in world ≡ most_rows → ((why ≡ Limit) × (length (base_at world b).rows + room < length (edited (base_at world b) edit).rows)) ⊎ (why ≡ NoMemory)
-    → ((why ≡ Limit) × (most_rows < rows_in (world_after world b edit))) ⊎ (why ≡ NoMemory)
-limit_cause world b room edit why lt left (inl more) = inl (more.0, rows_too_many world b room edit lt left more.1)
-limit_cause world b room edit why lt left (inr none) = inr none
+pub limit_cause : (world : World) (b : ℕ) → is_known_kind (base_at world b).kind ≡ true → (room : ℕ) (edit : Edit) (why : Refusal) → b < length world → room + rows_in world ≡ most_rows
+    → ((why ≡ Limit) × (length (base_at world b).rows + room < length (edited (base_at world b) edit).rows)) ⊎ (why ≡ NoMemory)
+    → ((why ≡ Limit) × (most_rows < rows_in (edited_at world b edit))) ⊎ (why ≡ NoMemory)
+limit_cause world b known room edit why lt left (inl more) = inl (more.0, rows_too_many world b room edit known lt left more.1)
+limit_cause world b known room edit why lt left (inr none) = inr none
 
 -- where rows only go, there is room for those that stay
 pub removed_fits : (rows : ℕ) (it : Base) (gone : List ℕ) → rows ≤ most_rows → rows + length (edited it (removing gone)).rows ≤ most_rows + length it.rows
@@ -111,22 +126,22 @@ without_numbers rows i numbers e = sym (ap (λ ns. without_rows ns 0 rows) e ∙
 -- ---- no row goes
 
 at_change : Base → ℕ → Base
-at_change it n = record { kind = it.kind; rows = it.rows; change = n; frozen = it.frozen }
+at_change it n = record { kind = it.kind; rows = it.rows; keys = it.keys; change = n; frozen = it.frozen }
 
-abbrev left : Base → List Item → Base
-left it rows = with_rows it rows (nat_lt (length rows) (length it.rows) || nat_lt (length rows) (length rows))
-
-same_change : (it : Base) → with_rows it it.rows false ≡ it
+same_change : (it : Base) → with_rows it it.rows it.keys false ≡ it
 unfolding at_change
 same_change it = let e : it.change + 0 ≡ it.change = omega arith in ap (at_change it) e
 
-none_edited : (it : Base) → edited it (removing []) ≡ it
-none_edited it = ap (left it) (without_none 0 it.rows) ∙ ap (λ b. with_rows it it.rows (b || b)) (not_less (length it.rows)) ∙ same_change it
+none_edited : (it : Base) → is_known_kind it.kind ≡ true → edited it (removing []) ≡ it
+none_edited it known =
+    edited_removing it known []
+    ∙ ap (λ (rows : List Item). with_rows it rows it.keys (nat_lt (length rows) (length it.rows))) (without_none 0 it.rows)
+    ∙ ap (λ b. with_rows it it.rows it.keys b) (not_less (length it.rows)) ∙ same_change it
 
 set_base : (world : World) (b : ℕ) → slice_set world b (base_at world b) ≡ world
 set_base [] b = refl
 set_base (it ∷ world) zero = refl
 set_base (it ∷ world) (suc b) = ap (λ w. it ∷ w) (set_base world b)
 
-pub nothing_gone : (world : World) (b : ℕ) → world_after world b (removing []) ≡ world
-nothing_gone world b = ap (slice_set world b) (none_edited (base_at world b)) ∙ set_base world b
+pub nothing_gone : (world : World) (b : ℕ) → is_known_kind (base_at world b).kind ≡ true → edited_at world b (removing []) ≡ world
+nothing_gone world b known = ap (slice_set world b) (none_edited (base_at world b) known) ∙ set_base world b

@@ -1,16 +1,21 @@
 -- What a view has along its line, from either end.
-use Rattle.std.proofs.Common.{◌≡◌, ℕ, zero, suc, ◌+◌, Bool, List, [], ◌∷◌, map, drop, refl, ap, sym, ◌∙◌, subst, arith}
+use Rattle.std.proofs.Common.{◌≡◌, true, ℕ, zero, suc, ◌+◌, Bool, List, [], ◌∷◌, map, drop, refl, ap, sym, ◌∙◌, subst, arith}
 use Rattle.std.specs.Prelude.{slice_get, Option, Some, None, option_map}
 use Rattle.std.proofs.lemmas.Option.{same_Some, slice_get-map}
 use Rattle.view_steps.specs.declared.lanes.Lane.TheVariants.{All}
-use Rattle.view_steps.specs.declared.places.Found.{Found}
+use Rattle.view_laws.specs.declared.places.Found.{Found}
 use Rattle.view_steps.specs.declared.places.Place.{Place}
-use Rattle.view_steps.specs.Lanes.{IsFrom, line, turned_if}
-use Rattle.view_steps.specs.Places.{found_in, places, show, HasKeys}
-use Rattle.view_steps.specs.Views.{World, View, base_at, base_under, candidates}
+use Rattle.view_steps.specs.Lanes.{IsFrom, line}
+use Rattle.view_laws.specs.Lanes.{turned_if}
+use Rattle.view_laws.specs.Places.{found_in}
+use Rattle.view_steps.specs.Places.{places, show, HasKeys}
+use Rattle.machine.specs.Bases.{World}
+use Rattle.machine.specs.Leaves.{leaf_at}
+use Rattle.view_steps.specs.KnownViews.{is_known_view}
+use Rattle.machine.specs.Views.{View, base_under, candidates}
 use Rattle.view_steps.proofs.LabelLemmas.{view_labels}
 use Rattle.view_steps.proofs.ListLemmas.{filter-all}
-use Rattle.view_steps.proofs.RowLemmas.{turned-map}
+use Rattle.view_laws.proofs.RowLemmas.{turned-map}
 use Rattle.view_steps.proofs.MemberLemmas.{in_turned}
 
 -- the line that takes all, from either end
@@ -20,11 +25,11 @@ whole_line world v back = ap (turned_if back) (filter-all (places world v))
 pub place_in_view : (world : World) (v : View) (back : Bool) (p : Place) (i : ℕ) → slice_get (line world v All back) i ≡ Some p → IsFrom (places world v) (Some p)
 place_in_view world v back p i is = in_turned back (places world v) p i (subst (λ (ps : List Place). slice_get ps i ≡ Some p) (whole_line world v back) is)
 
-pub line_found : (world : World) (v : View) (back : Bool) → HasKeys (base_at world (base_under v)) → map (show world v) (line world v All back) ≡ map Some (turned_if back (map found_in (candidates world v)))
-line_found world v back keys =
+pub line_found : (world : World) (v : View) (back : Bool) → is_known_view v ≡ true → HasKeys (leaf_at world (base_under v)) → map (show world v) (line world v All back) ≡ map Some (turned_if back (map found_in (candidates world v)))
+line_found world v back known keys =
     ap (map (show world v)) (whole_line world v back)
     ∙ turned-map (show world v) back (places world v)
-    ∙ ap (turned_if back) (view_labels world v keys)
+    ∙ ap (turned_if back) (view_labels world v known keys)
     ∙ sym (turned-map Some back (map found_in (candidates world v)))
 
 pub drop_at : {X : Type 0} (xs : List X) (i : ℕ) (x : X) → slice_get xs i ≡ Some x → drop i xs ≡ x ∷ drop (i + 1) xs

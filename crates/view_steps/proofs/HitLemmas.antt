@@ -5,17 +5,23 @@ use Rattle.std.specs.List.{drop-map, list_any}
 use Rattle.std.proofs.lemmas.List.{reverse-append}
 use Rattle.std.proofs.lemmas.Option.{same_Some}
 use Rattle.elem.specs.declared.elements.Elem.{Elem}
-use Rattle.view_steps.specs.declared.items.Item.{Item}
-use Rattle.view_steps.specs.declared.places.Found.{Found}
-use Rattle.view_steps.specs.declared.step_table.Family.{Family}
-use Rattle.view_steps.specs.declared.step_table.Family.TheVariants.{Same, Changed, Turned, Hidden, Cut}
-use Rattle.view_steps.specs.declared.steps.Step.{Step}
-use Rattle.view_steps.specs.Answering.{first_hit, is_hit, rows_of_first}
-use Rattle.view_steps.specs.Places.{found_in}
-use Rattle.view_steps.specs.Views.{Candidate, World, View, base, over, base_at, candidates, changed, cut, hidden, in_family, is_seen, item_in, of_rows, shown}
-use Rattle.view_steps.specs.Steps.{family_of, item_of, passes}
-use Rattle.view_steps.specs.Answers.{has_key}
+use Rattle.vocabulary.specs.declared.items.Item.{Item}
+use Rattle.view_laws.specs.declared.places.Found.{Found}
+use Rattle.vocabulary.specs.declared.step_table.Family.{Family}
+use Rattle.vocabulary.specs.declared.step_table.Family.TheVariants.{Same, Changed, Turned, Keyed, Hidden, Cut, Grouped, Run, Pieces}
+use Rattle.vocabulary.specs.declared.steps.Step.{Step}
+use Rattle.machine.specs.CallEdits.{first_hit, is_hit, rows_of_first}
+use Rattle.view_laws.specs.Places.{found_in}
+use Rattle.machine.specs.Candidates.{Candidate, changed, cut, hidden, in_family, is_seen, item_in, of_rows}
+use Rattle.machine.specs.Bases.{World}
+use Rattle.machine.specs.KeyOrders.{KeyOrder}
+use Rattle.machine.specs.Leaves.{leaf_at}
+use Rattle.view_steps.specs.KnownViews.{is_known_view}
+use Rattle.machine.specs.Views.{View, base, both, over, candidates, order_over, shown}
+use Rattle.vocabulary.specs.Steps.{family_of, item_of, passes}
+use Rattle.machine.specs.Shown.{has_key}
 use Rattle.view_steps.proofs.FoundLemmas.{drop_at}
+use Rattle.view_steps.proofs.KnownLemmas.{is_plain, known_family, known_over}
 use Rattle.view_steps.proofs.ListLemmas.{filter-map, never}
 use Rattle.view_steps.proofs.MemberLemmas.{StandsIn}
 
@@ -93,20 +99,27 @@ rows_cut p (c ∷ cs) a =
       | false ↦ rows_cut p cs a.1
     ]
 
-rows_over : (family : Family) (it : Step) (cs : List Candidate) → HaveRows cs → HaveRows (in_family family it cs)
-rows_over Same it cs a = a
-rows_over Changed it cs a = rows_changed (item_of it) cs a
-rows_over Turned it cs a = rows_reverse cs a
-rows_over Hidden it cs a = rows_hidden (passes it) cs a
-rows_over Cut it cs a = rows_changed (item_of it) (cut (passes it) cs) (rows_cut (passes it) cs a)
+rows_over : (family : Family) (it : Step) (order : KeyOrder) (cs : List Candidate) → is_plain family ≡ true → HaveRows cs → HaveRows (in_family family it order cs)
+rows_over Same it order cs plain a = a
+rows_over Changed it order cs plain a = rows_changed (item_of it) cs a
+rows_over Turned it order cs plain a = rows_reverse cs a
+rows_over Hidden it order cs plain a = rows_hidden (passes it) cs a
+rows_over Cut it order cs plain a = rows_changed (item_of it) (cut (passes it) cs) (rows_cut (passes it) cs a)
+rows_over Keyed it order cs plain a = absurd (cc)
+rows_over Grouped it order cs plain a = absurd (cc)
+rows_over Run it order cs plain a = absurd (cc)
+rows_over Pieces it order cs plain a = absurd (cc)
 
 rows_base : (n : ℕ) (rows : List Item) → HaveRows (of_rows n rows)
 rows_base n [] = tt
 rows_base n (row ∷ rows) = ((n, refl), rows_base (n + 1) rows)
 
-have_rows : (world : World) (v : View) → HaveRows (candidates world v)
-have_rows world (base b) = rows_base 0 (base_at world b).rows
-have_rows world (over it v) = rows_over (family_of it) it (candidates world v) (have_rows world v)
+have_rows : (world : World) (v : View) → is_known_view v ≡ true → HaveRows (candidates world v)
+have_rows world (base l) known = rows_base 0 (leaf_at world l).rows
+have_rows world (over it v) known =
+    let parts = known_over it v known in
+    rows_over (family_of it) it (order_over world v it) (candidates world v) (known_family it parts.0) (have_rows world v parts.1)
+have_rows world (both word v u) known = absurd (cc)
 
 found_has : (p : Candidate → Bool) (cs : List Candidate) (c : Candidate) → HaveRows cs → find p cs ≡ Some c → HasRow c
 found_has p [] c a e = absurd (cc)
@@ -128,13 +141,13 @@ hit_shown p (c ∷ cs) =
     ]
 
 -- where no row is hit, no item that passes is shown
-pub none_shown : (world : World) (v : View) (p : Item → Bool) → first_hit p (candidates world v) ≡ [] → false ≡ list_any p (shown world v)
-none_shown world v p none =
+pub none_shown : (world : World) (v : View) (p : Item → Bool) → is_known_view v ≡ true → first_hit p (candidates world v) ≡ [] → false ≡ list_any p (shown world v)
+none_shown world v p known none =
     by (find (is_hit p) (candidates world v)) refl ∙ sym (hit_shown p (candidates world v)) where
       by : (o : Option Candidate) → find (is_hit p) (candidates world v) ≡ o → false ≡ is_some (find (is_hit p) (candidates world v))
       by None e = sym (ap is_some e)
       by (Some c) e =
-          let has = found_has (is_hit p) (candidates world v) c (have_rows world v) e in
+          let has = found_has (is_hit p) (candidates world v) c (have_rows world v known) e in
           let rows : c.rows ≡ [] = sym (ap rows_of_first e) ∙ none in
           absurd (let f : [] ≡ has.0 ∷ [] = sym rows ∙ has.1 in cc)
 

@@ -3,9 +3,9 @@ use Rattle.std.proofs.Common.{◌≡◌, ℕ, ◌<◌, ◌≤◌, true, false, c
 use Rattle.std.specs.Prelude.{slice_get}
 use Rattle.std.proofs.lemmas.Option.{slice_get_within}
 use Rattle.std.proofs.lemmas.Bool.Decides.{nat_tests}
-use Rattle.view_steps.specs.declared.items.Item.{Item}
-use Rattle.view_steps.specs.declared.refusals.Refusal.TheVariants.{IndexOutOfBounds}
-use Rattle.view_steps.specs.Answering.{index_refusal}
+use Rattle.vocabulary.specs.declared.items.Item.{Item}
+use Rattle.vocabulary.specs.declared.refusals.Refusal.TheVariants.{IndexOutOfBounds}
+use Rattle.machine.specs.CallRefusals.{index_refusal}
 
 pub gap_refused : (items : List Item) (i : ℕ) → length items < i → index_refusal (λ n. nat_le n (length items)) (Some i) ≡ Some IndexOutOfBounds
 gap_refused items i h = let e : nat_le i (length items) ≡ false = grind (arith, nat_tests) in ap (λ b. cond b None (Some IndexOutOfBounds)) e

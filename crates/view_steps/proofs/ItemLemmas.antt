@@ -1,38 +1,42 @@
 -- Items such as a shape has.
-use Rattle.std.proofs.Common.{◌≡◌, Bool, true, false, ◌||◌, List, [], ◌∷◌, ◌++◌, reverse, refl, sym, ap, subst}
+use Rattle.std.proofs.Common.{◌≡◌, Bool, true, false, ◌||◌, List, [], ◌∷◌, ◌++◌, reverse, refl, sym, ap, subst, ◌∙◌}
 use Rattle.std.specs.Prelude.{IsSome}
 use Rattle.std.specs.List.{list_any}
 use Rattle.std.proofs.lemmas.List.{reverse-append}
 use Rattle.elem.specs.declared.elements.Elem.{Elem}
-use Rattle.elem.specs.Elements.{same}
-use Rattle.view_steps.specs.declared.items.Item.{Item}
-use Rattle.view_steps.specs.declared.items.Item.TheVariants.{One, Entry}
-use Rattle.view_steps.specs.declared.kinds.Kind.{Kind}
-use Rattle.view_steps.specs.declared.kinds.Kind.TheVariants as kinds
-use Rattle.view_steps.specs.declared.shapes.RowSort.TheVariants as rows
-use Rattle.view_steps.specs.declared.shapes.Shape.{Shape}
-use Rattle.view_steps.specs.declared.shapes.Shape.TheVariants as shape
-use Rattle.view_steps.specs.declared.steps.ChangeStep.TheVariants.{Transform, TransformValues, AsMap}
-use Rattle.view_steps.specs.declared.steps.FilterStep.TheVariants.{Filter, FilterKeys, FilterValues}
-use Rattle.view_steps.specs.declared.steps.PlainStep.TheVariants.{Reverse, KeySet, Values, EntrySet, Descending, Unmodifiable}
-use Rattle.view_steps.specs.declared.steps.Step.{Step}
-use Rattle.view_steps.specs.declared.steps.Step.TheVariants as step
-use Rattle.view_steps.specs.Answers.{has_key, is_shown}
-use Rattle.view_steps.specs.Calls.{is_elements, is_entries, is_map}
-use Rattle.view_steps.specs.Kinds.{shape_of_kind}
-use Rattle.view_steps.specs.Lanes.{turned_if}
-use Rattle.view_steps.specs.RowForm.{RowForm, form_over}
-use Rattle.view_steps.specs.Steps.{apply, family_of, item_of}
-use Rattle.view_steps.specs.Views.{shape_after}
+use Rattle.vocabulary.specs.declared.items.Item.{Item}
+use Rattle.vocabulary.specs.declared.items.Item.TheVariants.{One, Entry}
+use Rattle.vocabulary.specs.declared.kinds.Kind.{Kind}
+use Rattle.vocabulary.specs.declared.kinds.Kind.TheVariants as kinds
+use Rattle.vocabulary.specs.declared.shapes.RowSort.TheVariants as rows
+use Rattle.vocabulary.specs.declared.shapes.Shape.{Shape}
+use Rattle.vocabulary.specs.declared.shapes.Shape.TheVariants as shape
+use Rattle.vocabulary.specs.declared.steps.ChangeStep.TheVariants.{Transform, TransformValues, AsMap}
+use Rattle.vocabulary.specs.declared.steps.FilterStep.TheVariants.{Filter, FilterKeys, FilterValues}
+use Rattle.vocabulary.specs.declared.steps.PlainStep.TheVariants.{Reverse, KeySet, Values, EntrySet, Keys, Descending, Inverse, Transpose, ForMap, Unmodifiable}
+use Rattle.vocabulary.specs.declared.steps.Step.{Step}
+use Rattle.vocabulary.specs.declared.steps.Step.TheVariants as step
+use Rattle.machine.specs.Shown.{has_key, is_shown}
+use Rattle.vocabulary.specs.Shapes.{is_elements, is_map}
+use Rattle.vocabulary.specs.Fits.{is_entries}
+use Rattle.vocabulary.specs.Kinds.{shape_of_kind}
+use Rattle.view_laws.specs.Lanes.{turned_if}
+use Rattle.view_laws.specs.RowForm.{RowForm, form_over}
+use Rattle.vocabulary.specs.StepShapes.{apply}
+use Rattle.vocabulary.specs.Steps.{family_of, item_of}
+use Rattle.vocabulary.specs.Items.{same_item}
+use Rattle.vocabulary.specs.Known.{is_known_kind}
+use Rattle.machine.specs.Views.{shape_after}
+use Rattle.view_steps.specs.KnownViews.{is_known}
 
--- a view of a shape shows elements, or entries
+-- a view of a known shape shows elements, or entries
 abbrev pub IsItemIn : Shape → Item → Type 0
-IsItemIn (shape.Map sorted) (Entry k w) = Unit {0}
-IsItemIn (shape.Map sorted) (One x) = ⊥
+IsItemIn shape.List (One x) = Unit {0}
+IsItemIn (shape.Set sorted) (One x) = Unit {0}
+IsItemIn shape.Coll (One x) = Unit {0}
 IsItemIn (shape.Rows rows.Entry) (Entry k w) = Unit {0}
-IsItemIn (shape.Rows rows.Entry) (One x) = ⊥
-IsItemIn other (One x) = Unit {0}
-IsItemIn other (Entry k w) = ⊥
+IsItemIn (shape.Map sorted) (Entry k w) = Unit {0}
+IsItemIn of item = ⊥
 
 abbrev pub Each : (Item → Type 0) → List Item → Type 0
 Each P [] = Unit {0}
@@ -50,54 +54,48 @@ pub each_turned : (P : Item → Type 0) (t : Bool) (xs : List Item) → Each P x
 each_turned P true xs a = each_reverse P xs a
 each_turned P false xs a = a
 
-pub no_entries : (kind : Kind) → is_entries (shape_of_kind kind) ≡ false
-no_entries kinds.ArrayList = refl
-no_entries kinds.LinkedHashSet = refl
-no_entries kinds.TreeSet = refl
-no_entries kinds.TreeSetReverse = refl
-no_entries kinds.TreeSetLength = refl
-no_entries kinds.LinkedHashMap = refl
-no_entries kinds.TreeMap = refl
-no_entries kinds.TreeMapReverse = refl
-no_entries kinds.TreeMapLength = refl
+pub no_entries : (kind : Kind) → is_known_kind kind ≡ true → is_entries (shape_of_kind kind) ≡ false
+no_entries (kinds.Rows sort) h = absurd (cc)
+no_entries _ h = refl
 
-pub step_item : (of : Shape) (it : Step) (item : Item) → IsSome (apply of it) → IsItemIn of item → IsItemIn (shape_after of (apply of it)) (item_of it item)
-step_item shape.List it (Entry k w) given h = absurd h
-step_item shape.List (step.Plain Reverse) (One x) given h = tt
-step_item shape.List (step.Plain Unmodifiable) (One x) given h = tt
-step_item shape.List (step.Change Transform f) (One x) given h = tt
-step_item shape.List (step.Filter Filter p) (One x) given h = tt
-step_item shape.List it (One x) given h = absurd (cc)
-step_item shape.Coll it (Entry k w) given h = absurd h
-step_item shape.Coll (step.Plain Unmodifiable) (One x) given h = tt
-step_item shape.Coll (step.Change Transform f) (One x) given h = tt
-step_item shape.Coll (step.Filter Filter p) (One x) given h = tt
-step_item shape.Coll it (One x) given h = absurd (cc)
-step_item (shape.Set sorted) it (Entry k w) given h = absurd h
-step_item (shape.Set sorted) (step.Plain Unmodifiable) (One x) given h = tt
-step_item (shape.Set true) (step.Plain Descending) (One x) given h = tt
-step_item (shape.Set false) (step.Plain Descending) (One x) given h = absurd (cc)
-step_item (shape.Set sorted) (step.Change Transform f) (One x) given h = tt
-step_item (shape.Set sorted) (step.Change AsMap f) (One x) given h = tt
-step_item (shape.Set sorted) (step.Filter Filter p) (One x) given h = tt
-step_item (shape.Set true) (step.Within order w) (One x) given h = tt
-step_item (shape.Set false) (step.Within order w) (One x) given h = absurd (cc)
-step_item (shape.Set sorted) it (One x) given h = absurd (cc)
-step_item (shape.Rows rows.Entry) it item given h = absurd (cc)
-step_item (shape.Map sorted) it (One x) given h = absurd h
-step_item (shape.Map sorted) (step.Plain KeySet) (Entry k w) given h = tt
-step_item (shape.Map sorted) (step.Plain Values) (Entry k w) given h = tt
-step_item (shape.Map sorted) (step.Plain EntrySet) (Entry k w) given h = tt
-step_item (shape.Map sorted) (step.Plain Unmodifiable) (Entry k w) given h = tt
-step_item (shape.Map true) (step.Plain Descending) (Entry k w) given h = tt
-step_item (shape.Map false) (step.Plain Descending) (Entry k w) given h = absurd (cc)
-step_item (shape.Map sorted) (step.Change TransformValues f) (Entry k w) given h = tt
-step_item (shape.Map sorted) (step.Filter FilterKeys p) (Entry k w) given h = tt
-step_item (shape.Map sorted) (step.Filter FilterValues p) (Entry k w) given h = tt
-step_item (shape.Map sorted) (step.FilterPairs q) (Entry k w) given h = tt
-step_item (shape.Map true) (step.Within order win) (Entry k w) given h = tt
-step_item (shape.Map false) (step.Within order win) (Entry k w) given h = absurd (cc)
-step_item (shape.Map sorted) it (Entry k w) given h = absurd (cc)
+pub step_item : (of : Shape) (it : Step) → is_known it ≡ true → (item : Item) → IsSome (apply of it) → IsItemIn of item → IsItemIn (shape_after of (apply of it)) (item_of it item)
+step_item shape.List (step.Plain Reverse) known (One x) given h = tt
+step_item shape.List (step.Plain Unmodifiable) known (One x) given h = tt
+step_item shape.List (step.Change Transform f) known (One x) given h = tt
+step_item shape.List (step.Filter Filter p) known (One x) given h = tt
+step_item shape.List it known (One x) given h = absurd (cc)
+step_item shape.List it known item given h = absurd h
+step_item shape.Coll (step.Plain Unmodifiable) known (One x) given h = tt
+step_item shape.Coll (step.Change Transform f) known (One x) given h = tt
+step_item shape.Coll (step.Filter Filter p) known (One x) given h = tt
+step_item shape.Coll it known (One x) given h = absurd (cc)
+step_item shape.Coll it known item given h = absurd h
+step_item (shape.Set sorted) (step.Plain Unmodifiable) known (One x) given h = tt
+step_item (shape.Set true) (step.Plain Descending) known (One x) given h = tt
+step_item (shape.Set false) (step.Plain Descending) known (One x) given h = absurd (cc)
+step_item (shape.Set sorted) (step.Change Transform f) known (One x) given h = tt
+step_item (shape.Set sorted) (step.Change AsMap f) known (One x) given h = tt
+step_item (shape.Set sorted) (step.Filter Filter p) known (One x) given h = tt
+step_item (shape.Set true) (step.Within order w) known (One x) given h = tt
+step_item (shape.Set false) (step.Within order w) known (One x) given h = absurd (cc)
+step_item (shape.Set sorted) it known (One x) given h = absurd (cc)
+step_item (shape.Set sorted) it known item given h = absurd h
+step_item (shape.Map sorted) (step.Plain KeySet) known (Entry k w) given h = tt
+step_item (shape.Map sorted) (step.Plain Values) known (Entry k w) given h = tt
+step_item (shape.Map sorted) (step.Plain EntrySet) known (Entry k w) given h = tt
+step_item (shape.Map sorted) (step.Plain Unmodifiable) known (Entry k w) given h = tt
+step_item (shape.Map true) (step.Plain Descending) known (Entry k w) given h = tt
+step_item (shape.Map false) (step.Plain Descending) known (Entry k w) given h = absurd (cc)
+step_item (shape.Map sorted) (step.Change TransformValues f) known (Entry k w) given h = tt
+step_item (shape.Map sorted) (step.Filter FilterKeys p) known (Entry k w) given h = tt
+step_item (shape.Map sorted) (step.Filter FilterValues p) known (Entry k w) given h = tt
+step_item (shape.Map sorted) (step.FilterPairs q) known (Entry k w) given h = tt
+step_item (shape.Map true) (step.Within order win) known (Entry k w) given h = tt
+step_item (shape.Map false) (step.Within order win) known (Entry k w) given h = absurd (cc)
+step_item (shape.Map sorted) it known (Entry k w) given h = absurd (cc)
+step_item (shape.Map sorted) it known item given h = absurd h
+step_item (shape.Rows sort) it known item given h = absurd (cc)
+step_item _ it known item given h = absurd h
 
 -- what a form makes of a row, over a step
 pub item_over : (it : Step) (f : RowForm) (row : Item) → (form_over (family_of it) it f).item row ≡ item_of it (f.item row)
@@ -105,33 +103,65 @@ item_over (step.Plain Reverse) f row = refl
 item_over (step.Plain KeySet) f row = refl
 item_over (step.Plain Values) f row = refl
 item_over (step.Plain EntrySet) f row = refl
+item_over (step.Plain Keys) f row = refl
 item_over (step.Plain Descending) f row = refl
+item_over (step.Plain Inverse) f row = refl
+item_over (step.Plain Transpose) f row = refl
+item_over (step.Plain ForMap) f row = refl
 item_over (step.Plain Unmodifiable) f row = refl
 item_over (step.Filter word p) f row = refl
 item_over (step.FilterPairs q) f row = refl
 item_over (step.Change word g) f row = refl
 item_over (step.Within order w) f row = refl
+item_over (step.At side k n) f row = refl
+item_over (step.Group side made) f row = refl
+item_over (step.Sub n s) f row = refl
+item_over (step.Partition n) f row = refl
+item_over (step.Piece n s) f row = refl
+
+-- ---- collections have elements, and maps have entries
+
+pub record IsElement (item : Item) : Type 0 where
+  pub element : Elem
+  pub same : item ≡ One element
+
+pub record IsEntry (item : Item) : Type 0 where
+  pub key : Elem
+  pub value : Elem
+  pub same : item ≡ Entry key value
+
+pub an_element : (of : Shape) (item : Item) → is_elements of ≡ true → IsItemIn of item → IsElement item
+an_element shape.List (One x) h i = record { element = x; same = refl }
+an_element (shape.Set sorted) (One x) h i = record { element = x; same = refl }
+an_element shape.Coll (One x) h i = record { element = x; same = refl }
+an_element shape.List item h i = absurd i
+an_element (shape.Set sorted) item h i = absurd i
+an_element shape.Coll item h i = absurd i
+an_element (shape.Bag sorted) item h i = absurd i
+an_element _ item h i = absurd (cc)
+
+pub an_entry : (of : Shape) (item : Item) → is_map of ≡ true → IsItemIn of item → IsEntry item
+an_entry (shape.Map sorted) (Entry k w) h i = record { key = k; value = w; same = refl }
+an_entry (shape.Map sorted) item h i = absurd i
+an_entry shape.BiMap item h i = absurd i
+an_entry _ item h i = absurd (cc)
 
 pub no_entry : (of : Shape) (k w : Elem) → is_elements of ≡ true → IsItemIn of (Entry k w) → ⊥
-no_entry shape.List k w h i = i
-no_entry (shape.Set sorted) k w h i = i
-no_entry shape.Coll k w h i = i
-no_entry (shape.Rows rows.Entry) k w h i = absurd (cc)
-no_entry (shape.Map sorted) k w h i = absurd (cc)
+no_entry of k w h i = let e = an_element of (Entry k w) h i in cc
 
 pub no_element : (of : Shape) (x : Elem) → is_map of ≡ true → IsItemIn of (One x) → ⊥
-no_element (shape.Map sorted) x h i = i
-no_element shape.List x h i = absurd (cc)
-no_element (shape.Set sorted) x h i = absurd (cc)
-no_element shape.Coll x h i = absurd (cc)
-no_element (shape.Rows rows.Entry) x h i = absurd (cc)
+no_element of x h i = let e = an_entry of (One x) h i in cc
 
 pub shown_element : (of : Shape) (items : List Item) (x : Elem) → is_elements of ≡ true → Each (IsItemIn of) items → list_any (has_key x) items ≡ is_shown items (One x)
 shown_element of [] x h e = refl
-shown_element of (One y ∷ items) x h e = ap (λ b. same x y || b) (shown_element of items x h e.1)
-shown_element of (Entry k w ∷ items) x h e = absurd (no_entry of k w h e.0)
+shown_element of (item ∷ items) x h e =
+    let one = an_element of item h e.0 in
+    let here : has_key x item ≡ same_item (One x) item = rw one.same refl in
+    ap (λ b. b || list_any (has_key x) items) here ∙ ap (λ b. same_item (One x) item || b) (shown_element of items x h e.1)
 
 pub no_entry_shown : (of : Shape) (items : List Item) (k w : Elem) → is_elements of ≡ true → Each (IsItemIn of) items → false ≡ is_shown items (Entry k w)
 no_entry_shown of [] k w h e = refl
-no_entry_shown of (One y ∷ items) k w h e = no_entry_shown of items k w h e.1
-no_entry_shown of (Entry l u ∷ items) k w h e = absurd (no_entry of l u h e.0)
+no_entry_shown of (item ∷ items) k w h e =
+    let one = an_element of item h e.0 in
+    let here : false ≡ same_item (Entry k w) item = rw one.same refl in
+    no_entry_shown of items k w h e.1 ∙ ap (λ b. b || is_shown items (Entry k w)) here

@@ -1,28 +1,35 @@
 -- The candidates of a key: one at most, found from the row of the base that has it.
-use Rattle.std.proofs.Common.{◌≡◌, Bool, true, false, cond, ◌||◌, List, [], ◌∷◌, map, refl, ap, sym, ◌∙◌, subst}
-use Rattle.std.specs.Prelude.{filter, find, slice_get, Option, Some, None, option_map, is_some}
+use Rattle.std.proofs.Common.{◌≡◌, Bool, true, false, cond, ◌&&◌, ◌||◌, List, [], ◌∷◌, map, refl, ap, sym, ◌∙◌, subst}
+use Rattle.std.specs.Prelude.{nat_eq, filter, find, slice_get, Option, Some, None, option_map, is_some}
 use Rattle.std.specs.List.{IsDistinct, AllByRecursion, list_any}
 use Rattle.std.specs.Option.{option_to_list}
 use Rattle.std.proofs.lemmas.Simd.{map-map}
 use Rattle.elem.specs.declared.elements.Elem.{Elem}
 use Rattle.elem.specs.Elements.{same}
-use Rattle.elem.specs.ElementLaws.{same-Decides}
-use Rattle.view_steps.specs.declared.items.Item.{Item}
-use Rattle.view_steps.specs.declared.items.Item.TheVariants.{One, Entry}
+use Rattle.elem.specs.ElementLaws.{same-Decides, same_equiv}
+use Rattle.vocabulary.specs.declared.items.Item.{Item}
+use Rattle.vocabulary.specs.declared.items.Item.TheVariants.{One, Entry, Counted, Cell, Group, Piece, Range, RangeEntry, Pair, Edge}
 use Rattle.view_steps.specs.declared.lanes.Lane.{Lane}
-use Rattle.view_steps.specs.declared.places.Found.{Found}
+use Rattle.view_laws.specs.declared.places.Found.{Found}
 use Rattle.view_steps.specs.declared.places.Place.TheVariants.{Key}
-use Rattle.view_steps.specs.declared.steps.Step.{Step}
-use Rattle.view_steps.specs.Answers.{has_key}
-use Rattle.view_steps.specs.Items.{key_of, same_item}
-use Rattle.view_steps.specs.Lanes.{flipped, line, narrow, takes, turned_if}
-use Rattle.view_steps.specs.Places.{found_in, found_over, found_row, row_at, show, HasKeys}
-use Rattle.view_steps.specs.Steps.{family_of}
-use Rattle.view_steps.specs.Views.{World, View, over, base_at, base_under, candidates, of_rows}
+use Rattle.vocabulary.specs.declared.steps.Step.{Step}
+use Rattle.machine.specs.Shown.{has_key}
+use Rattle.vocabulary.specs.Items.{key_of, no_element, same_item}
+use Rattle.view_steps.specs.Lanes.{flipped, line, narrow, takes}
+use Rattle.view_laws.specs.Lanes.{turned_if}
+use Rattle.view_laws.specs.Places.{found_in, found_row}
+use Rattle.view_steps.specs.Places.{found_over, row_at, show, HasKeys}
+use Rattle.vocabulary.specs.Steps.{family_of}
+use Rattle.machine.specs.Bases.{World}
+use Rattle.machine.specs.Leaves.{leaf_at}
+use Rattle.view_steps.specs.KnownViews.{is_known_view}
+use Rattle.machine.specs.Views.{View, over, base_under, candidates}
+use Rattle.machine.specs.Candidates.{of_rows}
+use Rattle.view_steps.proofs.KnownLemmas.{known_over}
 use Rattle.view_steps.proofs.LabelLemmas.{labels_in, found_of_rows}
 use Rattle.view_steps.proofs.LineLemmas.{line-over}
 use Rattle.view_steps.proofs.ListLemmas.{both, filter-map, never, or-false}
-use Rattle.view_steps.proofs.RowLemmas.{turned-map}
+use Rattle.view_laws.proofs.RowLemmas.{turned-map}
 
 no_row : (k : Elem) (rows : List Item) → AllByRecursion (λ y. same k y ≡ false) (map key_of rows) → filter (has_key k) rows ≡ []
 no_row k [] all = refl
@@ -64,14 +71,14 @@ one_turned g false None = refl
 one_turned g false (Some x) = refl
 
 -- what a lane takes of a step over a view, by what the lane below it takes of the view
-pub one_over : (world : World) (it : Step) (v : View) (lane below : Lane) (r : Option Found) → HasKeys (base_at world (base_under v)) → narrow it lane ≡ Some below
+pub one_over : (world : World) (it : Step) (v : View) (lane below : Lane) (r : Option Found) → is_known_view (over it v) ≡ true → HasKeys (leaf_at world (base_under v)) → narrow it lane ≡ Some below
     → filter (λ (d : Found). takes below d.item) (map found_in (candidates world v)) ≡ option_to_list r
     → filter (λ (d : Found). takes lane d.item) (map found_in (candidates world (over it v))) ≡ option_to_list (option_map (found_over (family_of it) it) r)
-one_over world it v lane below r keys is one = map_Some_same _ _ (
-    sym (labels_in world (over it v) lane keys)
-    ∙ ap (map (show world (over it v))) (line-over world it v lane below false is)
+one_over world it v lane below r known keys is one = map_Some_same _ _ (
+    sym (labels_in world (over it v) lane known keys)
+    ∙ ap (map (show world (over it v))) (line-over world it v lane below false (known_over it v known).0 is)
     ∙ turned-map (show world (over it v)) (flipped it false) (line world v below false)
-    ∙ ap (turned_if (flipped it false)) (sym (map-map (option_map (found_over (family_of it) it)) (show world v) (line world v below false)) ∙ ap (map (option_map (found_over (family_of it) it))) (labels_in world v below keys ∙ ap (map Some) one))
+    ∙ ap (turned_if (flipped it false)) (sym (map-map (option_map (found_over (family_of it) it)) (show world v) (line world v below false)) ∙ ap (map (option_map (found_over (family_of it) it))) (labels_in world v below (known_over it v known).1 keys ∙ ap (map Some) one))
     ∙ one_turned (found_over (family_of it) it) (flipped it false) r
     )
 
@@ -111,11 +118,19 @@ any_in p q (x ∷ xs) imply = by (q x) (p x) refl refl (any_in p q xs imply)
     by false true e f rest = absurd (never (q x) e (imply x f))
     by false false e f rest = ap (λ b. b || list_any p xs) f ∙ rest
 
-same_keyed : (a b : Item) → same_item a b ≡ true → has_key (key_of a) b ≡ true
+-- items that are the same have the same key
+pub same_keyed : (a b : Item) → same_item a b ≡ true → has_key (key_of a) b ≡ true
 same_keyed (One x) (One y) h = h
-same_keyed (One x) (Entry l w) h = absurd (cc)
-same_keyed (Entry k v) (One y) h = absurd (cc)
 same_keyed (Entry k v) (Entry l w) h = (both (same k l) (same v w) h).0
+same_keyed (Counted x m) (Counted y n) h = (both (same x y) (nat_eq m n) h).0
+same_keyed (Cell r c v) (Cell s d w) h = (both (same r s) (same c d) (both (same r s && same c d) (same v w) h).0).0
+same_keyed (Group k) (Group l) h = h
+same_keyed (Piece i) (Piece j) h = same_equiv.refl no_element
+same_keyed (Range s) (Range t) h = same_equiv.refl no_element
+same_keyed (RangeEntry s v) (RangeEntry t w) h = same_equiv.refl no_element
+same_keyed (Pair a b) (Pair c d) h = same_equiv.refl no_element
+same_keyed (Edge a b v) (Edge c d w) h = same_equiv.refl no_element
+same_keyed _ _ h = absurd (cc)
 
 -- whether what is shown at a key is the same
 abbrev pub same_as : Item → Option Item → Bool

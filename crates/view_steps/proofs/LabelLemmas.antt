@@ -8,22 +8,29 @@ use Rattle.std.proofs.lemmas.Option.{same_Some}
 use Rattle.elem.specs.declared.elements.Elem.{Elem}
 use Rattle.elem.specs.Elements.{same}
 use Rattle.elem.specs.ElementLaws.{same-Decides}
-use Rattle.view_steps.specs.declared.items.Item.{Item}
+use Rattle.vocabulary.specs.declared.items.Item.{Item}
 use Rattle.view_steps.specs.declared.lanes.Lane.{Lane}
 use Rattle.view_steps.specs.declared.lanes.Lane.TheVariants.{All, OfKey, Within, Nothing}
-use Rattle.view_steps.specs.declared.places.Found.{Found}
+use Rattle.view_laws.specs.declared.places.Found.{Found}
 use Rattle.view_steps.specs.declared.places.Place.{Place}
 use Rattle.view_steps.specs.declared.places.Place.TheVariants.{Index, Key}
-use Rattle.view_steps.specs.declared.step_table.Family.{Family}
-use Rattle.view_steps.specs.declared.step_table.Family.TheVariants.{Same, Changed, Turned, Hidden, Cut}
-use Rattle.view_steps.specs.declared.steps.Step.{Step}
-use Rattle.view_steps.specs.Items.{key_of}
-use Rattle.view_steps.specs.Kinds.{shape_of_kind}
-use Rattle.view_steps.specs.Shapes.{is_keyed}
-use Rattle.view_steps.specs.Steps.{family_of, item_of, passes}
-use Rattle.view_steps.specs.Views.{World, View, base, over, base_at, base_under, Base, Candidate, candidates, in_family, changed, hidden, cut, of_rows}
-use Rattle.view_steps.specs.Places.{show, found_over, found_changed, found_if, found_in, found_row, places, places_of, places_over, passes_at, key_place, numbered, row_at, HasKeys}
+use Rattle.vocabulary.specs.declared.step_table.Family.{Family}
+use Rattle.vocabulary.specs.declared.step_table.Family.TheVariants.{Same, Changed, Turned, Keyed, Hidden, Cut, Grouped, Run, Pieces}
+use Rattle.vocabulary.specs.declared.steps.Step.{Step}
+use Rattle.vocabulary.specs.Items.{key_of}
+use Rattle.vocabulary.specs.Kinds.{shape_of_kind}
+use Rattle.vocabulary.specs.Shapes.{is_keyed}
+use Rattle.vocabulary.specs.Steps.{family_of, item_of, passes}
+use Rattle.machine.specs.Bases.{World, Base}
+use Rattle.machine.specs.KeyOrders.{KeyOrder}
+use Rattle.machine.specs.Leaves.{leaf_at}
+use Rattle.view_steps.specs.KnownViews.{is_known_view}
+use Rattle.machine.specs.Views.{View, base, both, over, base_under, candidates, order_over}
+use Rattle.machine.specs.Candidates.{Candidate, in_family, changed, hidden, cut, of_rows}
+use Rattle.view_steps.specs.Places.{show, found_over, places, places_of, places_over, passes_at, key_place, numbered, row_at, HasKeys}
+use Rattle.view_laws.specs.Places.{found_changed, found_if, found_in, found_row}
 use Rattle.view_steps.specs.Lanes.{takes, takes_at, line}
+use Rattle.view_steps.proofs.KnownLemmas.{is_plain, known_family, known_over}
 use Rattle.view_steps.proofs.ListLemmas.{filter-map, map-reverse}
 
 -- ---- a base
@@ -101,24 +108,31 @@ through g at ps ds h = sym (map-map (option_map g) at ps) ∙ ap (map (option_ma
 as_it_is : (at : Place → Option Found) (ps : List Place) (ds : List Found) → map at ps ≡ map Some ds → map (λ p. option_map (λ d. d) (at p)) ps ≡ map Some ds
 as_it_is at ps ds h = through (λ d. d) at ps ds h ∙ ap (map Some) (map-id ds)
 
-step_labels : (family : Family) (it : Step) (at : Place → Option Found) (ps : List Place) (cs : List Candidate) → map at ps ≡ map Some (map found_in cs)
-    → map (λ p. option_map (found_over family it) (at p)) (places_over family it at ps) ≡ map Some (map found_in (in_family family it cs))
-step_labels Same it at ps cs h = as_it_is at ps (map found_in cs) h
-step_labels Changed it at ps cs h = through (found_changed (item_of it)) at ps (map found_in cs) h ∙ ap (map Some) (sym (found-changed (item_of it) cs))
-step_labels Turned it at ps cs h =
+step_labels : (family : Family) (it : Step) (order : KeyOrder) (at : Place → Option Found) (ps : List Place) (cs : List Candidate) → is_plain family ≡ true → map at ps ≡ map Some (map found_in cs)
+    → map (λ p. option_map (found_over family it) (at p)) (places_over family it at ps) ≡ map Some (map found_in (in_family family it order cs))
+step_labels Same it order at ps cs plain h = as_it_is at ps (map found_in cs) h
+step_labels Changed it order at ps cs plain h = through (found_changed (item_of it)) at ps (map found_in cs) h ∙ ap (map Some) (sym (found-changed (item_of it) cs))
+step_labels Turned it order at ps cs plain h =
     as_it_is at (reverse ps) (reverse (map found_in cs)) (map-reverse at ps ∙ ap reverse h ∙ sym (map-reverse Some (map found_in cs)))
     ∙ ap (map Some) (sym (map-reverse found_in cs))
-step_labels Hidden it at ps cs h = through (found_if (passes it)) at ps (map found_in cs) h ∙ ap (map Some) (sym (found-hidden (passes it) cs))
-step_labels Cut it at ps cs h =
+step_labels Hidden it order at ps cs plain h = through (found_if (passes it)) at ps (map found_in cs) h ∙ ap (map Some) (sym (found-hidden (passes it) cs))
+step_labels Cut it order at ps cs plain h =
     through (found_changed (item_of it)) at (filter (λ p. passes_at it (at p)) ps) (filter (found_passes (passes it)) (map found_in cs))
     (sym (filter-map (passes_at it) at ps) ∙ ap (filter (passes_at it)) h ∙ filter-map (passes_at it) Some (map found_in cs))
     ∙ ap (map Some) (ap (map (found_changed (item_of it))) (sym (found-cut (passes it) cs)) ∙ sym (found-changed (item_of it) (cut (passes it) cs)))
+step_labels Keyed it order at ps cs plain h = absurd (cc)
+step_labels Grouped it order at ps cs plain h = absurd (cc)
+step_labels Run it order at ps cs plain h = absurd (cc)
+step_labels Pieces it order at ps cs plain h = absurd (cc)
 
 -- ---- a view
 
-pub view_labels : (world : World) (v : View) → HasKeys (base_at world (base_under v)) → map (show world v) (places world v) ≡ map Some (map found_in (candidates world v))
-view_labels world (base b) keys = base_labels (base_at world b) keys
-view_labels world (over it v) keys = step_labels (family_of it) it (show world v) (places world v) (candidates world v) (view_labels world v keys)
+pub view_labels : (world : World) (v : View) → is_known_view v ≡ true → HasKeys (leaf_at world (base_under v)) → map (show world v) (places world v) ≡ map Some (map found_in (candidates world v))
+view_labels world (base l) h keys = base_labels (leaf_at world l) keys
+view_labels world (over it v) h keys =
+    let parts = known_over it v h in
+    step_labels (family_of it) it (order_over world v it) (show world v) (places world v) (candidates world v) (known_family it parts.0) (view_labels world v parts.1 keys)
+view_labels world (both word v u) h keys = absurd (cc)
 
 takes_some : (lane : Lane) (ds : List Found) → filter (λ d. takes_at lane (Some d)) ds ≡ filter (λ d. takes lane d.item) ds
 takes_some All ds = refl
@@ -126,7 +140,7 @@ takes_some (OfKey k) ds = refl
 takes_some (Within order w) ds = refl
 takes_some Nothing ds = refl
 
-pub labels_in : (world : World) (v : View) (lane : Lane) → HasKeys (base_at world (base_under v)) → map (show world v) (line world v lane false) ≡ map Some (filter (λ d. takes lane d.item) (map found_in (candidates world v)))
-labels_in world v lane keys =
+pub labels_in : (world : World) (v : View) (lane : Lane) → is_known_view v ≡ true → HasKeys (leaf_at world (base_under v)) → map (show world v) (line world v lane false) ≡ map Some (filter (λ d. takes lane d.item) (map found_in (candidates world v)))
+labels_in world v lane h keys =
     let ds : List Found = map found_in (candidates world v) in
-    sym (filter-map (takes_at lane) (show world v) (places world v)) ∙ ap (filter (takes_at lane)) (view_labels world v keys) ∙ filter-map (takes_at lane) Some ds ∙ ap (map Some) (takes_some lane ds)
+    sym (filter-map (takes_at lane) (show world v) (places world v)) ∙ ap (filter (takes_at lane)) (view_labels world v h keys) ∙ filter-map (takes_at lane) Some ds ∙ ap (map Some) (takes_some lane ds)

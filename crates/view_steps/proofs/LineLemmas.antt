@@ -6,23 +6,27 @@ use Rattle.elem.specs.declared.elements.Elem.{Elem}
 use Rattle.elem.specs.declared.windows.Window.{Window}
 use Rattle.elem.specs.Elements.{same}
 use Rattle.elem.specs.ElementLaws.{same-Decides}
-use Rattle.view_steps.specs.declared.items.Item.{Item}
-use Rattle.view_steps.specs.declared.items.Item.TheVariants.{One, Entry}
+use Rattle.vocabulary.specs.declared.items.Item.{Item}
+use Rattle.vocabulary.specs.declared.items.Item.TheVariants.{Entry, Cell}
 use Rattle.view_steps.specs.declared.lanes.Lane.{Lane}
 use Rattle.view_steps.specs.declared.lanes.Lane.TheVariants.{All, OfKey, Within, Nothing}
-use Rattle.view_steps.specs.declared.orders.Order.{Order}
-use Rattle.view_steps.specs.declared.places.Found.{Found}
+use Rattle.vocabulary.specs.declared.orders.Order.{Order}
+use Rattle.view_laws.specs.declared.places.Found.{Found}
 use Rattle.view_steps.specs.declared.places.Place.{Place}
-use Rattle.view_steps.specs.declared.steps.ChangeStep.TheVariants.{Transform, TransformValues, AsMap}
-use Rattle.view_steps.specs.declared.steps.PlainStep.TheVariants.{Reverse, KeySet, Values, EntrySet, Descending, Unmodifiable}
-use Rattle.view_steps.specs.declared.steps.Step.{Step}
-use Rattle.view_steps.specs.declared.steps.Step.TheVariants as step
-use Rattle.view_steps.specs.Items.{key_of, with_value}
-use Rattle.view_steps.specs.Orders.{same_order, lies_in, encloses}
-use Rattle.view_steps.specs.Steps.{family_of, item_of, passes}
-use Rattle.view_steps.specs.Views.{World, View, over}
-use Rattle.view_steps.specs.Places.{show, found_over, found_changed, found_if, places, places_over, passes_at}
-use Rattle.view_steps.specs.Lanes.{takes_at, narrow, through_window, flipped, turned_if, line, line_of}
+use Rattle.vocabulary.specs.declared.steps.ChangeStep.TheVariants.{Transform, TransformValues, AsMap}
+use Rattle.vocabulary.specs.declared.steps.PlainStep.TheVariants.{Reverse, KeySet, Values, EntrySet, Keys, Descending, Inverse, Transpose, ForMap, Unmodifiable}
+use Rattle.vocabulary.specs.declared.steps.Step.{Step}
+use Rattle.vocabulary.specs.declared.steps.Step.TheVariants as step
+use Rattle.vocabulary.specs.Items.{key_of, with_value}
+use Rattle.vocabulary.specs.Orders.{same_order, lies_in, encloses}
+use Rattle.vocabulary.specs.Steps.{family_of, item_of, passes}
+use Rattle.machine.specs.Bases.{World}
+use Rattle.view_steps.specs.KnownViews.{is_known}
+use Rattle.machine.specs.Views.{View, over}
+use Rattle.view_steps.specs.Places.{show, found_over, places, places_over, passes_at}
+use Rattle.view_laws.specs.Places.{found_changed, found_if}
+use Rattle.view_steps.specs.Lanes.{takes_at, narrow, through_window, flipped, line, line_of}
+use Rattle.view_laws.specs.Lanes.{turned_if}
 use Rattle.view_steps.proofs.ListLemmas.{filter-reverse, filter-filter, and-true, and-false, and-implied, both}
 use Rattle.view_steps.proofs.WindowLemmas.{same_order-is, lies_in-both}
 
@@ -69,8 +73,9 @@ none_taken f None = refl
 none_taken f (Some d) = refl
 
 value_key : (v : Item → Elem) (item : Item) → key_of (with_value item (v item)) ≡ key_of item
-value_key v (One x) = refl
 value_key v (Entry k w) = refl
+value_key v (Cell r c w) = refl
+value_key v _ = refl
 
 -- ---- steps that leave out what does not pass
 
@@ -135,25 +140,34 @@ turns_round lane at ps back =
     as_taken lane lane (λ d. d) at (reverse ps) back (unchanged lane)
     ∙ ap (turned_if back) (filter-reverse (λ p. takes_at lane (at p)) ps) ∙ turned-reverse back (filter (λ p. takes_at lane (at p)) ps)
 
-line_step : (it : Step) (lane : Lane) (at : Place → Option Found) (ps : List Place) (back : Bool) → LineStep it lane at ps back (narrow it lane)
-line_step (step.Plain Reverse) lane at ps back = turns_round lane at ps back
-line_step (step.Plain KeySet) lane at ps back = as_taken lane lane _ at ps back (keeps_key (item_of (step.Plain KeySet)) (λ item. refl) lane)
-line_step (step.Plain Values) All at ps back = refl
-line_step (step.Plain Values) (OfKey k) at ps back = tt
-line_step (step.Plain Values) (Within order w) at ps back = tt
-line_step (step.Plain Values) Nothing at ps back = as_taken Nothing Nothing _ at ps back (none_taken _)
-line_step (step.Plain EntrySet) lane at ps back = as_taken lane lane (λ d. d) at ps back (unchanged lane)
-line_step (step.Plain Descending) lane at ps back = turns_round lane at ps back
-line_step (step.Plain Unmodifiable) lane at ps back = as_taken lane lane (λ d. d) at ps back (unchanged lane)
-line_step (step.Filter word p) lane at ps back = as_taken lane lane _ at ps back (hides (passes (step.Filter word p)) lane)
-line_step (step.FilterPairs q) lane at ps back = as_taken lane lane _ at ps back (hides (passes (step.FilterPairs q)) lane)
-line_step (step.Change Transform f) All at ps back = refl
-line_step (step.Change Transform f) (OfKey k) at ps back = tt
-line_step (step.Change Transform f) (Within order w) at ps back = tt
-line_step (step.Change Transform f) Nothing at ps back = as_taken Nothing Nothing _ at ps back (none_taken _)
-line_step (step.Change TransformValues f) lane at ps back = as_taken lane lane _ at ps back (keeps_key (item_of (step.Change TransformValues f)) (value_key _) lane)
-line_step (step.Change AsMap f) lane at ps back = as_taken lane lane _ at ps back (keeps_key (item_of (step.Change AsMap f)) (λ item. refl) lane)
-line_step (step.Within order w) lane at ps back = through order w lane at ps back
+line_step : (it : Step) (lane : Lane) (at : Place → Option Found) (ps : List Place) (back : Bool) → is_known it ≡ true → LineStep it lane at ps back (narrow it lane)
+line_step (step.Plain Reverse) lane at ps back known = turns_round lane at ps back
+line_step (step.Plain KeySet) lane at ps back known = as_taken lane lane _ at ps back (keeps_key (item_of (step.Plain KeySet)) (λ item. refl) lane)
+line_step (step.Plain Values) All at ps back known = refl
+line_step (step.Plain Values) (OfKey k) at ps back known = tt
+line_step (step.Plain Values) (Within order w) at ps back known = tt
+line_step (step.Plain Values) Nothing at ps back known = as_taken Nothing Nothing _ at ps back (none_taken _)
+line_step (step.Plain EntrySet) lane at ps back known = as_taken lane lane (λ d. d) at ps back (unchanged lane)
+line_step (step.Plain Descending) lane at ps back known = turns_round lane at ps back
+line_step (step.Plain Unmodifiable) lane at ps back known = as_taken lane lane (λ d. d) at ps back (unchanged lane)
+line_step (step.Filter word p) lane at ps back known = as_taken lane lane _ at ps back (hides (passes (step.Filter word p)) lane)
+line_step (step.FilterPairs q) lane at ps back known = as_taken lane lane _ at ps back (hides (passes (step.FilterPairs q)) lane)
+line_step (step.Change Transform f) All at ps back known = refl
+line_step (step.Change Transform f) (OfKey k) at ps back known = tt
+line_step (step.Change Transform f) (Within order w) at ps back known = tt
+line_step (step.Change Transform f) Nothing at ps back known = as_taken Nothing Nothing _ at ps back (none_taken _)
+line_step (step.Change TransformValues f) lane at ps back known = as_taken lane lane _ at ps back (keeps_key (item_of (step.Change TransformValues f)) (value_key _) lane)
+line_step (step.Change AsMap f) lane at ps back known = as_taken lane lane _ at ps back (keeps_key (item_of (step.Change AsMap f)) (λ item. refl) lane)
+line_step (step.Within order w) lane at ps back known = through order w lane at ps back
+line_step (step.Plain Keys) lane at ps back known = absurd (cc)
+line_step (step.Plain Inverse) lane at ps back known = absurd (cc)
+line_step (step.Plain Transpose) lane at ps back known = absurd (cc)
+line_step (step.Plain ForMap) lane at ps back known = absurd (cc)
+line_step (step.At side k n) lane at ps back known = absurd (cc)
+line_step (step.Group side made) lane at ps back known = absurd (cc)
+line_step (step.Sub n s) lane at ps back known = absurd (cc)
+line_step (step.Partition n) lane at ps back known = absurd (cc)
+line_step (step.Piece n s) lane at ps back known = absurd (cc)
 
-pub line-over : (world : World) (it : Step) (v : View) (lane below : Lane) (back : Bool) → narrow it lane ≡ Some below → line world (over it v) lane back ≡ line world v below (flipped it back)
-line-over world it v lane below back is = subst (LineStep it lane (show world v) (places world v) back) is (line_step it lane (show world v) (places world v) back)
+pub line-over : (world : World) (it : Step) (v : View) (lane below : Lane) (back : Bool) → is_known it ≡ true → narrow it lane ≡ Some below → line world (over it v) lane back ≡ line world v below (flipped it back)
+line-over world it v lane below back known is = subst (LineStep it lane (show world v) (places world v) back) is (line_step it lane (show world v) (places world v) back known)

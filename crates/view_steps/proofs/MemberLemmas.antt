@@ -2,7 +2,7 @@
 use Rattle.std.proofs.Common.{◌≡◌, ℕ, zero, suc, Bool, true, false, cond, List, [], ◌∷◌, refl, sym, subst}
 use Rattle.std.specs.Prelude.{filter, slice_get, Some}
 use Rattle.std.proofs.lemmas.Option.{same_Some}
-use Rattle.view_steps.specs.Lanes.{turned_if}
+use Rattle.view_laws.specs.Lanes.{turned_if}
 use Rattle.view_steps.proofs.TurnLemmas.{reverse_at}
 
 -- an element of a list

@@ -3,19 +3,23 @@ use Rattle.std.proofs.Common.{◌≡◌, true, List, refl, ap, sym, ◌∙◌, s
 use Rattle.std.specs.Prelude.{Option, Some, None, option_map, slice_get}
 use Rattle.std.proofs.lemmas.Option.{same_Some}
 use Rattle.elem.specs.declared.elements.Elem.{Elem}
-use Rattle.view_steps.specs.declared.places.Found.{Found}
+use Rattle.view_laws.specs.declared.places.Found.{Found}
 use Rattle.view_steps.specs.declared.places.Place.{Place}
-use Rattle.view_steps.specs.declared.step_table.Family.{Family}
-use Rattle.view_steps.specs.declared.step_table.Family.TheVariants.{Same, Changed, Turned, Hidden, Cut}
-use Rattle.view_steps.specs.declared.steps.Step.{Step}
+use Rattle.vocabulary.specs.declared.step_table.Family.{Family}
+use Rattle.vocabulary.specs.declared.step_table.Family.TheVariants.{Same, Changed, Turned, Keyed, Hidden, Cut, Grouped, Run, Pieces}
+use Rattle.vocabulary.specs.declared.steps.Step.{Step}
 use Rattle.view_steps.specs.declared.lanes.Lane.{Lane}
-use Rattle.view_steps.specs.declared.items.Item.{Item}
+use Rattle.vocabulary.specs.declared.items.Item.{Item}
 use Rattle.view_steps.specs.declared.places.Place.TheVariants.{Index, Key}
 use Rattle.view_steps.specs.Lanes.{IsFrom, IsStraight, narrow}
 use Rattle.view_steps.specs.Places.{found_over, passes_at, places, places_over, row_at, show, found_by_steps, numbered, key_place}
-use Rattle.view_steps.specs.Steps.{family_of}
-use Rattle.view_steps.specs.Views.{World, View, base, over, base_at, base_under}
-use Rattle.view_steps.specs.Items.{key_of}
+use Rattle.vocabulary.specs.Steps.{family_of}
+use Rattle.machine.specs.Bases.{World}
+use Rattle.machine.specs.Leaves.{leaf_at}
+use Rattle.view_steps.specs.KnownViews.{is_known_view}
+use Rattle.machine.specs.Views.{View, base, both, over, base_under}
+use Rattle.vocabulary.specs.Items.{key_of}
+use Rattle.view_steps.proofs.KnownLemmas.{known_over}
 use Rattle.view_steps.proofs.MemberLemmas.{in_filter, in_turned}
 
 option_map-map : {X Y Z : Type 0} (g : Y → Z) (f : X → Y) (o : Option X) → option_map g (option_map f o) ≡ option_map (λ x. g (f x)) o
@@ -23,10 +27,11 @@ option_map-map g f None = refl
 option_map-map g f (Some x) = refl
 
 -- the steps of a view, one by one, on the row at a place
-pub show_by_steps : (world : World) (v : View) (p : Place) → show world v p ≡ option_map (found_by_steps v) (row_at (base_at world (base_under v)).rows p)
-show_by_steps world (base b) p = refl
-show_by_steps world (over it v) p =
-    ap (option_map (found_over (family_of it) it)) (show_by_steps world v p) ∙ option_map-map (found_over (family_of it) it) (found_by_steps v) (row_at (base_at world (base_under v)).rows p)
+pub show_by_steps : (world : World) (v : View) (p : Place) → is_known_view v ≡ true → show world v p ≡ option_map (found_by_steps v) (row_at (leaf_at world (base_under v)).rows p)
+show_by_steps world (base l) p h = refl
+show_by_steps world (over it v) p h =
+    ap (option_map (found_over (family_of it) it)) (show_by_steps world v p (known_over it v h).1) ∙ option_map-map (found_over (family_of it) it) (found_by_steps v) (row_at (leaf_at world (base_under v)).rows p)
+show_by_steps world (both word v u) p h = absurd (cc)
 
 below_step : (family : Family) (it : Step) (at : Place → Option Found) (ps : List Place) (p : Place) → IsFrom (places_over family it at ps) (Some p) → IsFrom ps (Some p)
 below_step Same it at ps p h = h
@@ -34,11 +39,16 @@ below_step Changed it at ps p h = h
 below_step Turned it at ps p h = in_turned true ps p h.0 h.1
 below_step Hidden it at ps p h = h
 below_step Cut it at ps p h = in_filter (λ q. passes_at it (at q)) ps p h.0 h.1
+below_step Keyed it at ps p h = h
+below_step Grouped it at ps p h = h
+below_step Run it at ps p h = h
+below_step Pieces it at ps p h = h
 
 -- a place of a view is one of its base
 pub place_in_base : (world : World) (v : View) (p : Place) → IsFrom (places world v) (Some p) → IsFrom (places world (base (base_under v))) (Some p)
-place_in_base world (base b) p h = h
+place_in_base world (base l) p h = h
 place_in_base world (over it v) p h = place_in_base world v p (below_step (family_of it) it (show world v) (places world v) p h)
+place_in_base world (both word v u) p h = absurd (cc)
 
 -- a lane that comes down to the base comes down from the view below
 pub straight_below : (world : World) (it : Step) (v : View) (lane below : Lane) → IsStraight world (over it v) lane → narrow it lane ≡ Some below → IsStraight world v below

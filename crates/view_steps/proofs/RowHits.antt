@@ -1,23 +1,30 @@
 -- The rows that a view shows whose items pass a test are those that its row form shows, and whose items pass.
-use Rattle.std.proofs.Common.{◌≡◌, ℕ, ◌+◌, ◌<◌, ◌≤◌, Bool, true, false, cond, ◌&&◌, ◌||◌, not, List, [], ◌∷◌, length, reverse, refl, ap, sym, ◌∙◌, arith, get_or}
+use Rattle.std.proofs.Common.{◌≡◌, ℕ, ◌+◌, ◌<◌, ◌≤◌, Bool, true, false, cond, ◌&&◌, ◌||◌, not, List, [], ◌∷◌, length, reverse, refl, ap, sym, ◌∙◌, subst, arith, get_or}
 use Rattle.std.specs.Prelude.{filter, nat_eq, nat_lt, Option, Some, None}
 use Rattle.std.specs.List.{list_any, flat_map}
 use Rattle.std.proofs.lemmas.Bool.Decides.{nat_tests}
 use Rattle.std.proofs.lemmas.List.Folds.{list_any-append}
 use Rattle.std.proofs.lemmas.List.Sorted.{list_any-IsPermutation, IsPermutation-reverse}
 use Rattle.std.proofs.lemmas.Option.{same_Some}
-use Rattle.view_steps.specs.declared.items.Item.{Item}
-use Rattle.view_steps.specs.declared.places.Found.{Found}
-use Rattle.view_steps.specs.declared.step_table.Family.{Family}
-use Rattle.view_steps.specs.declared.step_table.Family.TheVariants.{Same, Changed, Turned, Hidden, Cut}
-use Rattle.view_steps.specs.declared.steps.Step.{Step}
-use Rattle.view_steps.specs.Answering.{is_hit, all_hits}
-use Rattle.view_steps.specs.Edits.{edited, goes, removing, with_rows, without_rows}
-use Rattle.view_steps.specs.Lanes.{turned_if}
-use Rattle.view_steps.specs.RowForm.{RowForm, form_of, is_row_hit, form_over, found_row_by, found_of_row, is_cut_in}
-use Rattle.view_steps.specs.Views.{World, View, base_at, base_under, Candidate, candidates, of_rows, changed, hidden, cut, Base}
+use Rattle.vocabulary.specs.declared.items.Item.{Item}
+use Rattle.view_laws.specs.declared.places.Found.{Found}
+use Rattle.vocabulary.specs.declared.step_table.Family.{Family}
+use Rattle.vocabulary.specs.declared.step_table.Family.TheVariants.{Same, Changed, Turned, Keyed, Hidden, Cut, Grouped, Run, Pieces}
+use Rattle.vocabulary.specs.declared.steps.Step.{Step}
+use Rattle.machine.specs.CallEdits.{is_hit, all_hits}
+use Rattle.machine.specs.Edits.{edited, goes, removing, with_rows, without_rows}
+use Rattle.view_laws.specs.Lanes.{turned_if}
+use Rattle.view_laws.specs.RowForm.{RowForm, form_of, form_over, found_row_by}
+use Rattle.view_steps.specs.RowHits.{is_row_hit, found_of_row, is_cut_in}
+use Rattle.machine.specs.Bases.{World, base_at, Base}
+use Rattle.machine.specs.Leaves.{leaf_at}
+use Rattle.vocabulary.specs.Known.{is_known_kind}
+use Rattle.view_steps.specs.KnownViews.{is_known_view, number_under}
+use Rattle.machine.specs.Views.{View, base_under, candidates}
+use Rattle.machine.specs.Candidates.{Candidate, of_rows, changed, hidden, cut}
 use Rattle.view_steps.specs.Places.{found_over}
-use Rattle.view_steps.specs.Steps.{passes}
+use Rattle.vocabulary.specs.Steps.{passes}
+use Rattle.view_steps.proofs.KnownLemmas.{is_plain, known_base}
 use Rattle.view_steps.proofs.RowLemmas.{row_law}
 use Rattle.view_steps.proofs.EditedRows.{edited_removing}
 use Rattle.view_steps.proofs.ListLemmas.{and-false, and-true, or-false}
@@ -103,30 +110,39 @@ rows_left p f gone k (row ∷ rows) as_made =
     flip false rs = refl
 
 -- the rows that stay once those went that a view shows whose items pass
-pub without_hits : (world : World) (v : View) (p : Item → Bool) → without_rows (all_hits p (candidates world v)) 0 (base_at world (base_under v)).rows ≡ filter (λ row. not (is_row_hit p (form_of v) row)) (base_at world (base_under v)).rows
-without_hits world v p =
+pub without_hits : (world : World) (v : View) → is_known_view v ≡ true → (p : Item → Bool)
+    → without_rows (all_hits p (candidates world v)) 0 (leaf_at world (base_under v)).rows ≡ filter (λ row. not (is_row_hit p (form_of v) row)) (leaf_at world (base_under v)).rows
+without_hits world v known p =
     let f : RowForm = form_of v in
-    let rows : List Item = (base_at world (base_under v)).rows in
+    let rows : List Item = (leaf_at world (base_under v)).rows in
     rows_left p f (all_hits p (candidates world v)) 0 rows
-    (λ n le. ap (λ (cs : List Candidate). goes (all_hits p cs) n) (row_law world v) ∙ goes_turned p n f.turned (made f 0 rows))
+    (λ n le. ap (λ (cs : List Candidate). goes (all_hits p cs) n) (row_law world v known) ∙ goes_turned p n f.turned (made f 0 rows))
+
+-- a base without the rows that a form shows as items that pass
+abbrev without_shown : (Item → Bool) → RowForm → Base → Base
+without_shown p f it = with_rows it (filter (λ row. not (is_row_hit p f row)) it.rows) it.keys (nat_lt (length (filter (λ row. not (is_row_hit p f row)) it.rows)) (length it.rows))
 
 -- the edit that removes those rows
-pub edited_hits : (world : World) (v : View) (p : Item → Bool) (b : ℕ) → b ≡ base_under v
-    → with_rows (base_at world b) (filter (λ row. not (is_row_hit p (form_of v) row)) (base_at world b).rows) (nat_lt (length (filter (λ row. not (is_row_hit p (form_of v) row)) (base_at world b).rows)) (length (base_at world b).rows))
-    ≡ edited (base_at world b) (removing (all_hits p (candidates world v)))
-edited_hits world v p b under =
-    rw under
-    (sym (edited_removing (base_at world (base_under v)) (all_hits p (candidates world v))
-    ∙ ap (λ (rows : List Item). with_rows (base_at world (base_under v)) rows (nat_lt (length rows) (length (base_at world (base_under v)).rows))) (without_hits world v p)))
+pub edited_hits : (world : World) (v : View) → is_known_view v ≡ true → is_known_kind (base_at world (number_under v)).kind ≡ true → (p : Item → Bool)
+    → without_shown p (form_of v) (base_at world (number_under v)) ≡ edited (base_at world (number_under v)) (removing (all_hits p (candidates world v)))
+edited_hits world v known kind p =
+    let it : Base = base_at world (number_under v) in
+    let gone : List ℕ = all_hits p (candidates world v) in
+    let left : without_rows gone 0 it.rows ≡ filter (λ row. not (is_row_hit p (form_of v) row)) it.rows =
+    subst (λ (at : Base). without_rows gone 0 at.rows ≡ filter (λ row. not (is_row_hit p (form_of v) row)) at.rows) (known_base world v known) (without_hits world v known p) in
+    sym (edited_removing it kind gone ∙ ap (λ (rows : List Item). with_rows it rows it.keys (nat_lt (length rows) (length it.rows))) left)
 
 -- a base from which those rows were dropped
-pub dropped : (world : World) (v : View) (p : Item → Bool) (b : ℕ) (at new : Base) → b < length world → b ≡ base_under v → at ≡ get_or world b at
-    → new ≡ with_rows at (filter (λ row. not (is_row_hit p (form_of v) row)) at.rows) (nat_lt (length (filter (λ row. not (is_row_hit p (form_of v) row)) at.rows)) (length at.rows))
+pub dropped : (world : World) (v : View) → is_known_view v ≡ true → (p : Item → Bool) (b : ℕ) (at new : Base) → is_known_kind at.kind ≡ true → b < length world → b ≡ number_under v → at ≡ get_or world b at
+    → new ≡ with_rows at (filter (λ row. not (is_row_hit p (form_of v) row)) at.rows) at.keys (nat_lt (length (filter (λ row. not (is_row_hit p (form_of v) row)) at.rows)) (length at.rows))
     → new ≡ edited (base_at world b) (removing (all_hits p (candidates world v)))
-dropped world v p b at new lt under read is =
+dropped world v known p b at new kind lt under read is =
+    let it : base_at world b ≡ at = read_at world b at lt read in
+    let here : base_at world (number_under v) ≡ at = ap (base_at world) (sym under) ∙ it in
     is
-    ∙ ap (λ (it : Base). with_rows it (filter (λ row. not (is_row_hit p (form_of v) row)) it.rows) (nat_lt (length (filter (λ row. not (is_row_hit p (form_of v) row)) it.rows)) (length it.rows))) (sym (read_at world b at lt read))
-    ∙ edited_hits world v p b under
+    ∙ ap (without_shown p (form_of v)) (sym here)
+    ∙ edited_hits world v known (ap (λ (x : Base). is_known_kind x.kind) here ∙ kind) p
+    ∙ ap (λ (n : ℕ). edited (base_at world n) (removing (all_hits p (candidates world v)))) (sym under)
 
 -- ---- one row, step by step
 
@@ -135,17 +151,21 @@ abbrev pub through : Family → Step → Option Found → Option Found
 through family step None = None
 through family step (Some d) = cond (is_cut_in family step d.item) None (Some (found_over family step d))
 
-pub found_step : (family : Family) (step : Step) (f : RowForm) (row : Item) → found_of_row (form_over family step f) row ≡ through family step (found_of_row f row)
-found_step Same step f row = elim (f.takes row) as (λ b. cond b (Some (found_row_by f row)) None ≡ through Same step (cond b (Some (found_row_by f row)) None)) [ true ↦ refl | false ↦ refl ]
-found_step Changed step f row =
+pub found_step : (family : Family) → is_plain family ≡ true → (step : Step) (f : RowForm) (row : Item) → found_of_row (form_over family step f) row ≡ through family step (found_of_row f row)
+found_step Same plain step f row = elim (f.takes row) as (λ b. cond b (Some (found_row_by f row)) None ≡ through Same step (cond b (Some (found_row_by f row)) None)) [ true ↦ refl | false ↦ refl ]
+found_step Changed plain step f row =
     elim (f.takes row) as (λ b. cond b (Some (found_row_by (form_over Changed step f) row)) None ≡ through Changed step (cond b (Some (found_row_by f row)) None)) [ true ↦ refl | false ↦ refl ]
-found_step Turned step f row = elim (f.takes row) as (λ b. cond b (Some (found_row_by f row)) None ≡ through Turned step (cond b (Some (found_row_by f row)) None)) [ true ↦ refl | false ↦ refl ]
-found_step Hidden step f row = elim (f.takes row) as (λ b. cond b (Some (found_row_by (form_over Hidden step f) row)) None ≡ through Hidden step (cond b (Some (found_row_by f row)) None)) [ true ↦ refl | false ↦ refl ]
-found_step Cut step f row =
+found_step Turned plain step f row = elim (f.takes row) as (λ b. cond b (Some (found_row_by f row)) None ≡ through Turned step (cond b (Some (found_row_by f row)) None)) [ true ↦ refl | false ↦ refl ]
+found_step Hidden plain step f row = elim (f.takes row) as (λ b. cond b (Some (found_row_by (form_over Hidden step f) row)) None ≡ through Hidden step (cond b (Some (found_row_by f row)) None)) [ true ↦ refl | false ↦ refl ]
+found_step Cut plain step f row =
     elim (f.takes row) as (λ b. cond (b && passes step (f.item row)) (Some (found_row_by (form_over Cut step f) row)) None ≡ through Cut step (cond b (Some (found_row_by f row)) None)) [
       | true ↦ elim (passes step (f.item row)) as (λ b. cond b (Some (found_row_by (form_over Cut step f) row)) None ≡ cond (not b) None (Some (found_over Cut step (found_row_by f row)))) [ true ↦ refl | false ↦ refl ]
       | false ↦ refl
     ]
+found_step Keyed plain step f row = absurd (cc)
+found_step Grouped plain step f row = absurd (cc)
+found_step Run plain step f row = absurd (cc)
+found_step Pieces plain step f row = absurd (cc)
 
 -- a row that a form leaves out is not hit
 pub hit_none : (p : Item → Bool) (f : RowForm) (row : Item) → found_of_row f row ≡ None → is_row_hit p f row ≡ false

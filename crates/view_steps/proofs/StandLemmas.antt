@@ -3,17 +3,24 @@ use Rattle.std.proofs.Common.{◌≡◌, ℕ, zero, suc, ◌+◌, ◌≤◌, Boo
 use Rattle.std.specs.Prelude.{filter, slice_get, Option, Some, option_map}
 use Rattle.std.proofs.lemmas.List.{reverse-append, length-reverse, length-map}
 use Rattle.std.proofs.lemmas.Option.{same_Some}
-use Rattle.view_steps.specs.declared.items.Item.{Item}
-use Rattle.view_steps.specs.declared.places.Found.{Found}
+use Rattle.vocabulary.specs.declared.items.Item.{Item}
+use Rattle.view_laws.specs.declared.places.Found.{Found}
 use Rattle.view_steps.specs.declared.places.Place.{Place}
-use Rattle.view_steps.specs.declared.step_table.Family.{Family}
-use Rattle.view_steps.specs.declared.step_table.Family.TheVariants.{Same, Changed, Turned, Hidden, Cut}
-use Rattle.view_steps.specs.declared.steps.Step.{Step}
-use Rattle.view_steps.specs.Kinds.{shape_of_kind}
-use Rattle.view_steps.specs.Places.{show, found_over, found_changed, found_if, found_in, found_row, places, places_of, places_over, passes_at, key_place, numbered, row_at, HasKeys, StandsFor, IsRowAt}
-use Rattle.view_steps.specs.Shapes.{is_keyed}
-use Rattle.view_steps.specs.Steps.{family_of, item_of, passes}
-use Rattle.view_steps.specs.Views.{World, View, base, over, base_at, base_under, Base, Candidate, candidates, in_family, cut, with_item, seen_if, of_rows}
+use Rattle.vocabulary.specs.declared.step_table.Family.{Family}
+use Rattle.vocabulary.specs.declared.step_table.Family.TheVariants.{Same, Changed, Turned, Keyed, Hidden, Cut, Grouped, Run, Pieces}
+use Rattle.vocabulary.specs.declared.steps.Step.{Step}
+use Rattle.vocabulary.specs.Kinds.{shape_of_kind}
+use Rattle.view_steps.specs.Places.{show, found_over, places, places_of, places_over, passes_at, key_place, numbered, row_at, HasKeys, StandsFor, IsRowAt}
+use Rattle.view_laws.specs.Places.{found_changed, found_if, found_in, found_row}
+use Rattle.vocabulary.specs.Shapes.{is_keyed}
+use Rattle.vocabulary.specs.Steps.{family_of, item_of, passes}
+use Rattle.machine.specs.Bases.{World, Base}
+use Rattle.machine.specs.KeyOrders.{KeyOrder}
+use Rattle.machine.specs.Leaves.{leaf_at}
+use Rattle.view_steps.specs.KnownViews.{is_known_view}
+use Rattle.machine.specs.Views.{View, base, both, over, base_under, candidates, order_over}
+use Rattle.machine.specs.Candidates.{Candidate, in_family, cut, with_item, seen_if, of_rows}
+use Rattle.view_steps.proofs.KnownLemmas.{is_plain, known_family, known_over}
 use Rattle.view_steps.proofs.LabelLemmas.{row_of_key}
 use Rattle.view_steps.proofs.ListLemmas.{fewer}
 
@@ -117,29 +124,36 @@ through g at whole p c d rows same s = (ap (option_map g) s.0 ∙ ap Some (sym s
 cut_passes : (it : Step) (at : Place → Option Found) (whole : List Item) (p : Place) (c : Candidate) → Stands at whole p c → passes_at it (at p) ≡ passes it c.item
 cut_passes it at whole p c s = ap (passes_at it) s.0
 
-step_stands : (family : Family) (it : Step) (at : Place → Option Found) (whole : List Item) (ps : List Place) (cs : List Candidate) → Zipped (Stands at whole) ps cs
-    → Zipped (Stands (λ p. option_map (found_over family it) (at p)) whole) (places_over family it at ps) (in_family family it cs)
-step_stands Same it at whole ps cs z = zipped-as _ _ (λ p c s. through (λ d. d) at whole p c c refl refl s) ps cs z
-step_stands Changed it at whole ps cs z = zipped-map _ _ (with_item (item_of it)) (λ p c s. through (found_changed (item_of it)) at whole p c (with_item (item_of it) c) refl refl s) ps cs z
-step_stands Turned it at whole ps cs z = zipped-as _ _ (λ p c s. through (λ d. d) at whole p c c refl refl s) (reverse ps) (reverse cs) (zipped-reverse (Stands at whole) ps cs z)
-step_stands Hidden it at whole ps cs z = zipped-map _ _ (seen_if (passes it)) (λ p c s. through (found_if (passes it)) at whole p c (seen_if (passes it) c) refl refl s) ps cs z
-step_stands Cut it at whole ps cs z =
+step_stands : (family : Family) (it : Step) (order : KeyOrder) (at : Place → Option Found) (whole : List Item) (ps : List Place) (cs : List Candidate) → is_plain family ≡ true → Zipped (Stands at whole) ps cs
+    → Zipped (Stands (λ p. option_map (found_over family it) (at p)) whole) (places_over family it at ps) (in_family family it order cs)
+step_stands Same it order at whole ps cs plain z = zipped-as _ _ (λ p c s. through (λ d. d) at whole p c c refl refl s) ps cs z
+step_stands Changed it order at whole ps cs plain z = zipped-map _ _ (with_item (item_of it)) (λ p c s. through (found_changed (item_of it)) at whole p c (with_item (item_of it) c) refl refl s) ps cs z
+step_stands Turned it order at whole ps cs plain z = zipped-as _ _ (λ p c s. through (λ d. d) at whole p c c refl refl s) (reverse ps) (reverse cs) (zipped-reverse (Stands at whole) ps cs z)
+step_stands Hidden it order at whole ps cs plain z = zipped-map _ _ (seen_if (passes it)) (λ p c s. through (found_if (passes it)) at whole p c (seen_if (passes it) c) refl refl s) ps cs z
+step_stands Cut it order at whole ps cs plain z =
     zipped-map _ _ (with_item (item_of it)) (λ p c s. through (found_changed (item_of it)) at whole p c (with_item (item_of it) c) refl refl s)
     (filter (λ p. passes_at it (at p)) ps) (cut (passes it) cs)
     (zipped-filter (Stands at whole) (λ p. passes_at it (at p)) (λ c. passes it c.item) (cut_passes it at whole) ps cs z)
+step_stands Keyed it order at whole ps cs plain z = absurd (cc)
+step_stands Grouped it order at whole ps cs plain z = absurd (cc)
+step_stands Run it order at whole ps cs plain z = absurd (cc)
+step_stands Pieces it order at whole ps cs plain z = absurd (cc)
 
 -- ---- a view
 
-view_stands : (world : World) (v : View) → HasKeys (base_at world (base_under v)) → Zipped (Stands (show world v) (base_at world (base_under v)).rows) (places world v) (candidates world v)
-view_stands world (base b) keys = base_stands (base_at world b) keys
-view_stands world (over it v) keys = step_stands (family_of it) it (show world v) (base_at world (base_under v)).rows (places world v) (candidates world v) (view_stands world v keys)
+view_stands : (world : World) (v : View) → is_known_view v ≡ true → HasKeys (leaf_at world (base_under v)) → Zipped (Stands (show world v) (leaf_at world (base_under v)).rows) (places world v) (candidates world v)
+view_stands world (base l) known keys = base_stands (leaf_at world l) keys
+view_stands world (over it v) known keys =
+    let parts = known_over it v known in
+    step_stands (family_of it) it (order_over world v it) (show world v) (leaf_at world (base_under v)).rows (places world v) (candidates world v) (known_family it parts.0) (view_stands world v parts.1 keys)
+view_stands world (both word v u) known keys = absurd (cc)
 
-pub stand_law : (world : World) (v : View) (p : Place) (i : ℕ) (c : Candidate) → HasKeys (base_at world (base_under v)) → StandsFor world v p i → slice_get (candidates world v) i ≡ Some c
-    → (show world v p ≡ Some (found_in c)) × IsRowAt (base_at world (base_under v)).rows p c.rows
-stand_law world v p i c keys at is = zipped-at (Stands (show world v) (base_at world (base_under v)).rows) (places world v) (candidates world v) (view_stands world v keys) i p c at is
+pub stand_law : (world : World) (v : View) (p : Place) (i : ℕ) (c : Candidate) → is_known_view v ≡ true → HasKeys (leaf_at world (base_under v)) → StandsFor world v p i → slice_get (candidates world v) i ≡ Some c
+    → (show world v p ≡ Some (found_in c)) × IsRowAt (leaf_at world (base_under v)).rows p c.rows
+stand_law world v p i c known keys at is = zipped-at (Stands (show world v) (leaf_at world (base_under v)).rows) (places world v) (candidates world v) (view_stands world v known keys) i p c at is
 
-pub count_law : (world : World) (v : View) → HasKeys (base_at world (base_under v)) → length (places world v) ≡ length (candidates world v)
-count_law world v keys = zipped-length (Stands (show world v) (base_at world (base_under v)).rows) (places world v) (candidates world v) (view_stands world v keys)
+pub count_law : (world : World) (v : View) → is_known_view v ≡ true → HasKeys (leaf_at world (base_under v)) → length (places world v) ≡ length (candidates world v)
+count_law world v known keys = zipped-length (Stands (show world v) (leaf_at world (base_under v)).rows) (places world v) (candidates world v) (view_stands world v known keys)
 
 -- ---- no more candidates than rows
 
@@ -147,13 +161,20 @@ rows_counted : (n : ℕ) (rows : List Item) → length (of_rows n rows) ≡ leng
 rows_counted n [] = refl
 rows_counted n (row ∷ rows) = ap suc (rows_counted (n + 1) rows)
 
-step_fewer : (family : Family) (it : Step) (cs : List Candidate) → length (in_family family it cs) ≤ length cs
-step_fewer Same it cs = omega arith
-step_fewer Changed it cs = omega (arith, length-map cs (with_item (item_of it)))
-step_fewer Turned it cs = omega (arith, length-reverse cs)
-step_fewer Hidden it cs = omega (arith, length-map cs (seen_if (passes it)))
-step_fewer Cut it cs = omega (arith, length-map (cut (passes it) cs) (with_item (item_of it)), fewer (λ (c : Candidate). passes it c.item) cs)
+step_fewer : (family : Family) (it : Step) (order : KeyOrder) (cs : List Candidate) → is_plain family ≡ true → length (in_family family it order cs) ≤ length cs
+step_fewer Same it order cs plain = omega arith
+step_fewer Changed it order cs plain = omega (arith, length-map cs (with_item (item_of it)))
+step_fewer Turned it order cs plain = omega (arith, length-reverse cs)
+step_fewer Hidden it order cs plain = omega (arith, length-map cs (seen_if (passes it)))
+step_fewer Cut it order cs plain = omega (arith, length-map (cut (passes it) cs) (with_item (item_of it)), fewer (λ (c : Candidate). passes it c.item) cs)
+step_fewer Keyed it order cs plain = absurd (cc)
+step_fewer Grouped it order cs plain = absurd (cc)
+step_fewer Run it order cs plain = absurd (cc)
+step_fewer Pieces it order cs plain = absurd (cc)
 
-pub few_law : (world : World) (v : View) → length (candidates world v) ≤ length (base_at world (base_under v)).rows
-few_law world (base b) = omega (arith, rows_counted 0 (base_at world b).rows)
-few_law world (over it v) = omega (arith, step_fewer (family_of it) it (candidates world v), few_law world v)
+pub few_law : (world : World) (v : View) → is_known_view v ≡ true → length (candidates world v) ≤ length (leaf_at world (base_under v)).rows
+few_law world (base l) known = omega (arith, rows_counted 0 (leaf_at world l).rows)
+few_law world (over it v) known =
+    let parts = known_over it v known in
+    omega (arith, step_fewer (family_of it) it (order_over world v it) (candidates world v) (known_family it parts.0), few_law world v parts.1)
+few_law world (both word v u) known = absurd (cc)

@@ -5,10 +5,10 @@ use Rattle.elem.specs.declared.cuts.Cut.{Cut}
 use Rattle.elem.specs.declared.cuts.Cut.TheVariants.{Start, Below, Above, End}
 use Rattle.elem.specs.declared.windows.Window.{Window}
 use Rattle.elem.specs.CutLaws.{lies_between-wider, cut_before_strict, cut_upto_chain}
-use Rattle.view_steps.specs.declared.orders.Order.{Order}
-use Rattle.view_steps.specs.declared.orders.Order.TheVariants.{Natural, Reverse, ByLength}
-use Rattle.view_steps.specs.Orders.{before_strict, same_order, upto, lies_in, encloses}
-use Rattle.view_steps.specs.Windows.{stands_in, low_fits, high_fits, takes_range, low_end, high_end, resulting}
+use Rattle.vocabulary.specs.declared.orders.Order.{Order}
+use Rattle.vocabulary.specs.declared.orders.Order.TheVariants.{Natural, Reverse, ByLength}
+use Rattle.vocabulary.specs.Orders.{before_strict, same_order, upto, lies_in, encloses}
+use Rattle.vocabulary.specs.Windows.{stands_in, low_fits, high_fits, takes_range, low_end, high_end, resulting}
 use Rattle.view_steps.proofs.ListLemmas.{both, and-implied}
 
 pub same_order-is : (a b : Order) → same_order a b ≡ true → a ≡ b

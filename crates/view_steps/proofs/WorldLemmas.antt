@@ -3,10 +3,10 @@ use Rattle.std.proofs.Common.{◌≡◌, ℕ, ◌<◌, [], ◌∷◌, ◌++◌, 
 use Rattle.std.specs.List.{IsDistinct}
 use Rattle.std.proofs.lemmas.Bool.{cases_eq}
 use Rattle.std.proofs.lemmas.List.{get_or_append_left, get_or-set_same, get_or-set_other}
-use Rattle.view_steps.specs.declared.kinds.Kind.{Kind}
-use Rattle.view_steps.specs.declared.kinds.Kind.TheVariants.{LinkedHashMap}
+use Rattle.vocabulary.specs.declared.kinds.Kind.{Kind}
+use Rattle.vocabulary.specs.declared.kinds.Kind.TheVariants.{LinkedHashMap}
 use Rattle.view_steps.specs.Places.{HasKeys}
-use Rattle.view_steps.specs.Views.{Base, World, base_at, empty_base}
+use Rattle.machine.specs.Bases.{Base, World, base_at, empty_base}
 
 -- a base without rows has no key twice
 pub empty_keys : (kind : Kind) → HasKeys (empty_base kind)

@@ -1,19 +1,23 @@
--- Places in a base: those in which a view's candidates stand, in walk order, and what the view has at a place.
-use Rattle.std.specs.Prelude.{◌≡◌, ℕ, ◌+◌, Bool, true, false, ◌&&◌, cond, List, [], ◌∷◌, map, filter, reverse, find, slice_get, Option, None, Some, option_map}
+-- Places in the leaf under a view whose steps are known: those in which its candidates stand, in walk order, and what it
+-- has at a place.
+use Rattle.std.specs.Prelude.{◌≡◌, ℕ, ◌+◌, Bool, true, false, cond, List, [], ◌∷◌, map, filter, reverse, find, slice_get, Option, None, Some, option_map}
 use Rattle.std.specs.List.{IsDistinct}
 use Rattle.elem.specs.Elements.{same}
-use Rattle.view_steps.specs.declared.items.Item.{Item}
-use Rattle.view_steps.specs.declared.steps.Step.{Step}
-use Rattle.view_steps.specs.declared.step_table.Family.{Family}
-use Rattle.view_steps.specs.declared.step_table.Family.TheVariants.{Same, Changed, Turned, Hidden, Cut}
-use Rattle.view_steps.specs.declared.places.Found.{Found}
+use Rattle.vocabulary.specs.declared.items.Item.{Item}
+use Rattle.vocabulary.specs.declared.steps.Step.{Step}
+use Rattle.vocabulary.specs.declared.step_table.Family.{Family}
+use Rattle.vocabulary.specs.declared.step_table.Family.TheVariants.{Changed, Hidden, Cut, Turned}
+use Rattle.view_laws.specs.declared.places.Found.{Found}
 use Rattle.view_steps.specs.declared.places.Place.{Place}
 use Rattle.view_steps.specs.declared.places.Place.TheVariants.{Index, Key}
-use Rattle.view_steps.specs.Items.{key_of}
-use Rattle.view_steps.specs.Kinds.{shape_of_kind}
-use Rattle.view_steps.specs.Shapes.{is_keyed}
-use Rattle.view_steps.specs.Steps.{family_of, item_of, passes}
-use Rattle.view_steps.specs.Views.{Base, World, View, base, over, base_at, Candidate}
+use Rattle.vocabulary.specs.Items.{key_of}
+use Rattle.vocabulary.specs.Kinds.{shape_of_kind}
+use Rattle.vocabulary.specs.Shapes.{is_keyed}
+use Rattle.vocabulary.specs.Steps.{family_of, item_of, passes}
+use Rattle.machine.specs.Bases.{Base, World}
+use Rattle.machine.specs.Leaves.{leaf_at}
+use Rattle.machine.specs.Views.{View, base, both, over}
+use Rattle.view_laws.specs.Places.{found_changed, found_if, found_row}
 
 -- ---- a base
 
@@ -34,37 +38,24 @@ abbrev pub row_at : List Item → Place → Option Item
 row_at rows (Index i) = slice_get rows i
 row_at rows (Key k) = find (λ row. same k (key_of row)) rows
 
-abbrev pub found_row : Item → Found
-found_row row = record { item = row; seen = true }
-
 -- no two rows of a base that goes by key have the same key
 abbrev pub HasKeys : Base → Type 0
 HasKeys it = is_keyed (shape_of_kind it.kind) ≡ true → IsDistinct same (map key_of it.rows)
 
 -- ---- a view
 
--- what a candidate shows
-abbrev pub found_in : Candidate → Found
-found_in c = record { item = c.item; seen = c.seen }
-
-abbrev pub found_changed : (Item → Item) → Found → Found
-found_changed f d = record { item = f d.item; seen = d.seen }
-
-abbrev pub found_if : (Item → Bool) → Found → Found
-found_if p d = record { item = d.item; seen = d.seen && p d.item }
-
 -- what a view by a step has at a place, by what the view below has there
 abbrev pub found_over : Family → Step → Found → Found
-found_over Same step d = d
 found_over Changed step d = found_changed (item_of step) d
-found_over Turned step d = d
 found_over Hidden step d = found_if (passes step) d
 found_over Cut step d = found_changed (item_of step) d
+found_over other step d = d
 
 -- what a view has at a place
 abbrev pub show : World → View → Place → Option Found
-show world (base b) p = option_map found_row (row_at (base_at world b).rows p)
+show world (base l) p = option_map found_row (row_at (leaf_at world l).rows p)
 show world (over step v) p = option_map (found_over (family_of step) step) (show world v p)
+show world (both word v u) p = None
 
 abbrev pub passes_at : Step → Option Found → Bool
 passes_at step None = false
@@ -72,16 +63,15 @@ passes_at step (Some d) = passes step d.item
 
 -- the places of a step over a view, by those of the view and what it has there
 abbrev pub places_over : Family → Step → (Place → Option Found) → List Place → List Place
-places_over Same step at ps = ps
-places_over Changed step at ps = ps
 places_over Turned step at ps = reverse ps
-places_over Hidden step at ps = ps
 places_over Cut step at ps = filter (λ p. passes_at step (at p)) ps
+places_over other step at ps = ps
 
 -- the places of a view's candidates, in the order of its walk
 abbrev pub places : World → View → List Place
-places world (base b) = places_of (base_at world b)
+places world (base l) = places_of (leaf_at world l)
 places world (over step v) = places_over (family_of step) step (show world v) (places world v)
+places world (both word v u) = []
 
 -- a place in which candidate i of a view stands
 abbrev pub StandsFor : World → View → Place → ℕ → Type 0
@@ -101,5 +91,6 @@ pub record IsRowAt (rows : List Item) (p : Place) (numbers : List ℕ) : Type 0 
 
 -- what a view makes of a row of its base, step by step
 abbrev pub found_by_steps : View → Item → Found
-found_by_steps (base b) row = found_row row
+found_by_steps (base l) row = found_row row
 found_by_steps (over step v) row = found_over (family_of step) step (found_by_steps v row)
+found_by_steps (both word v u) row = found_row row

@@ -1,8 +1,9 @@
-use crate::{Family, Item, Step, family_of, item_of, passes};
 use elem::Elem;
+use view_laws::Found;
+use vocabulary::{Family, Step, family_of, item_of, passes};
 
 /// A place in a base, in which a view's candidate stands. It stays where it is while the base's keys do.
-#[derive(Clone, Copy, Debug)]
+#[derive(Clone, Copy)]
 pub enum Place {
     /// The index of a row of a list.
     Index(usize),
@@ -10,23 +11,15 @@ pub enum Place {
     Key(Elem),
 }
 
-/// What a view has at a place: an item, which is shown where it is seen, and hidden else.
-#[derive(Clone, Copy, Debug)]
-pub struct Found {
-    pub item: Item,
-    pub seen: bool,
-}
-
 ghost use Rattle.std.specs.Prelude.{◌≡◌};
 ghost use Rattle.view_steps.specs.Places as spec;
-ghost use Rattle.view_steps.specs.Steps.{family_of as family};
+ghost use Rattle.vocabulary.specs.Steps.{family_of as family};
 
 /// What a view by a step has at a place, by what the view below has there.
 pub fn found_over(step: &Step, found: &Found) -> Found
     ensures { result ≡ spec.found_over (family step.now) step.now found.now }
 {
     match family_of(step) {
-        Family::Same | Family::Turned => *found,
         Family::Changed | Family::Cut => Found {
             item: item_of(step, &found.item),
             seen: found.seen,
@@ -38,5 +31,6 @@ pub fn found_over(step: &Step, found: &Found) -> Found
                 seen: found.seen && visible,
             }
         }
+        _ => *found,
     }
 }

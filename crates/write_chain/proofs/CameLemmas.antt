@@ -3,12 +3,13 @@ use Rattle.std.proofs.Common.{◌≡◌, ◌⊎◌, inl, inr, ◌<◌, ◌≤◌
 use Rattle.std.specs.Prelude.{Ok, Err}
 use Rattle.std.proofs.lemmas.Bool.Decides.{nat_tests}
 use Rattle.base_store.specs.Stored.{Stored, with_world}
-use Rattle.view_steps.specs.declared.answers.Answer.{Answer}
-use Rattle.view_steps.specs.declared.refusals.Refusal.{Refusal}
-use Rattle.view_steps.specs.declared.refusals.Refusal.TheVariants.{Limit, NoMemory}
-use Rattle.view_steps.specs.Answering.{Answered, within_rows}
-use Rattle.view_steps.specs.Limits.{rows_in, most_rows}
-use Rattle.view_steps.specs.Views.{World}
+use Rattle.vocabulary.specs.declared.answers.Answer.{Answer}
+use Rattle.vocabulary.specs.declared.refusals.Refusal.{Refusal}
+use Rattle.vocabulary.specs.declared.refusals.Refusal.TheVariants.{Limit, NoMemory}
+use Rattle.machine.specs.Answering.{Answered, within_rows}
+use Rattle.machine.specs.RowCounts.{rows_in}
+use Rattle.vocabulary.specs.Limits.{most_rows}
+use Rattle.machine.specs.Bases.{World}
 use Rattle.write_chain.specs.Calls.{Came}
 
 abbrev over_limit : Answer → World → Bool → Answered

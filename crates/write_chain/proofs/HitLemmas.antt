@@ -3,10 +3,12 @@ use Rattle.std.proofs.Common.{◌≡◌, Bool, true, [], ◌∷◌, refl, sym, a
 use Rattle.std.specs.Prelude.{Option, Some, None, find, is_some}
 use Rattle.std.specs.List.{list_any}
 use Rattle.read_chain.specs.Reads.{StandsAt}
-use Rattle.view_steps.specs.declared.items.Item.{Item}
+use Rattle.vocabulary.specs.declared.items.Item.{Item}
 use Rattle.view_steps.specs.declared.places.Place.{Place}
-use Rattle.view_steps.specs.Answering.{first_hit, is_hit, rows_of_first}
-use Rattle.view_steps.specs.Views.{World, View, Candidate, candidates, shown}
+use Rattle.machine.specs.CallEdits.{first_hit, is_hit, rows_of_first}
+use Rattle.machine.specs.Bases.{World}
+use Rattle.machine.specs.Views.{View, candidates, shown}
+use Rattle.machine.specs.Candidates.{Candidate}
 use Rattle.view_steps.proofs.HitLemmas.{hit_shown}
 
 -- ---- hits and what is shown

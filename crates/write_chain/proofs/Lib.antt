@@ -2,6 +2,7 @@ pub mod CameLemmas
 pub mod ChangeLemmas
 pub mod ShapeLemmas
 pub mod LiftLemmas
+pub mod KnownCalls
 pub mod AddLemmas
 pub mod IndexCalls
 pub mod RemoveLemmas

@@ -8,10 +8,10 @@ use Rattle.elem.specs.declared.outside.NoMemory.{NoMemory}
 use Rattle.elem.specs.Elements.{same}
 use Rattle.elem.specs.Keyed.{value_at}
 use Rattle.elem.specs.ElementLaws.{same-Decides}
-use Rattle.view_steps.specs.declared.items.Item.{Item}
-use Rattle.view_steps.specs.declared.items.Item.TheVariants.{One, Entry}
-use Rattle.view_steps.specs.Answers.{has_key}
-use Rattle.view_steps.specs.Items.{key_of}
+use Rattle.vocabulary.specs.declared.items.Item.{Item}
+use Rattle.vocabulary.specs.declared.items.Item.TheVariants.{One}
+use Rattle.machine.specs.Shown.{has_key}
+use Rattle.vocabulary.specs.Items.{key_of}
 use Rattle.write_chain.specs.declared.members.Among.{Among}
 use Rattle.write_chain.specs.Members.{Members, among_passes, is_among, is_member}
 
@@ -62,4 +62,4 @@ among_key test e item h = by item (sym (ap (λ (b : Bool). cond b (not (is_among
   where
     by : (it : Item) → is_among test.members it ≡ true → is_some (value_at test.members (key_of it)) ≡ true
     by (One x) f = f
-    by (Entry k w) f = absurd (cc)
+    by _ f = absurd (cc)

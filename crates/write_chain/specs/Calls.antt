@@ -1,18 +1,26 @@
 -- What a call leaves.
-use Rattle.std.specs.Prelude.{◌≡◌, Bool, true, false, ℕ, List, Result, Ok, Err, Some}
+use Rattle.std.specs.Prelude.{◌≡◌, Bool, true, false, ℕ, List, Option, None, Some, Result, Ok, Err}
 use Rattle.base_store.specs.Stored.{Stored, with_world}
-use Rattle.view_steps.specs.declared.answers.Answer.{Answer}
-use Rattle.view_steps.specs.declared.calls.Call.{Call}
-use Rattle.view_steps.specs.declared.calls.Call.TheVariants as call
-use Rattle.view_steps.specs.declared.calls.OnElement.TheVariants.{Add, Remove, RemoveKey}
-use Rattle.view_steps.specs.declared.calls.OnPair.TheVariants.{Put, RemoveEntry}
-use Rattle.view_steps.specs.declared.edits.Spot.{Spot}
-use Rattle.view_steps.specs.declared.items.Item.{Item}
-use Rattle.view_steps.specs.declared.refusals.Refusal.{Refusal}
-use Rattle.view_steps.specs.declared.refusals.Refusal.TheVariants.{NoMemory}
-use Rattle.view_steps.specs.Answering.{Answered, carried_out, lift_refusal, rows_for, unless_refused, within_rows}
-use Rattle.view_steps.specs.Edits.{adding, removing, world_after}
-use Rattle.view_steps.specs.Views.{World, View, base_under}
+use Rattle.vocabulary.specs.declared.answers.Answer.{Answer}
+use Rattle.vocabulary.specs.declared.calls.Call.{Call}
+use Rattle.vocabulary.specs.declared.calls.Call.TheVariants as call
+use Rattle.vocabulary.specs.declared.calls.OnElement.TheVariants.{Add, Remove, RemoveKey}
+use Rattle.vocabulary.specs.declared.calls.OnOther.{OnOther}
+use Rattle.vocabulary.specs.declared.calls.OnPair.TheVariants.{Put, RemoveEntry}
+use Rattle.vocabulary.specs.declared.edits.Spot.{Spot}
+use Rattle.vocabulary.specs.declared.items.Item.{Item}
+use Rattle.vocabulary.specs.declared.refusals.Refusal.{Refusal}
+use Rattle.vocabulary.specs.declared.refusals.Refusal.TheVariants.{NoMemory}
+use Rattle.vocabulary.specs.Needs.{needs_of, needs_with}
+use Rattle.machine.specs.Answering.{Answered, unless_refused, within_rows}
+use Rattle.machine.specs.Answers.{answer_of, answer_with}
+use Rattle.machine.specs.CallRefusals.{flag_refusal, items_lifted, items_lifted_with, lift_refusal, test_refusal}
+use Rattle.machine.specs.CallEdits.{adding_last, edit_of, edit_with, rows_for}
+use Rattle.machine.specs.Edits.{Edit, adding, removing}
+use Rattle.machine.specs.Reading.{first_refusal}
+use Rattle.view_steps.specs.KnownViews.{edited_at, number_under}
+use Rattle.machine.specs.Bases.{World}
+use Rattle.machine.specs.Views.{View, flags_at, shape_at, shown}
 
 -- a refused call changes nothing; want of memory is answered in place of an answer or of a refusal
 abbrev pub IsRefused : Refusal → Answered → Type 0
@@ -34,10 +42,33 @@ Came (Ok answer) before now (Ok done) = (answer ≡ done.0) × (now ≡ with_wor
 Came (Ok answer) before now (Err why) = ⊥
 Came (Err why) before now outcome = (now ≡ before) × IsRefused why outcome
 
--- the answer where items are added to a view that allows it, unless one of them does not pass
+-- an answer, and the bases after an edit of the base under a view, or the limit of rows
+abbrev pub left : World → View → Answer → Option Edit → Answered
+left world v answer None = Ok (answer, world)
+left world v answer (Some edit) = within_rows answer (edited_at world (number_under v) edit)
+
+-- a known call on a known view: reading the view does not refuse it, nor does its base refuse the edit
+abbrev pub known_refusal : World → View → Call → Option Refusal
+known_refusal world v call = first_refusal (flag_refusal world v (needs_of call)) (first_refusal (test_refusal (flags_at world v) call (shown world v)) (lift_refusal v (items_lifted call (shown world v))))
+
+abbrev pub answered_known : World → View → Call → Answered
+answered_known world v call = unless_refused (known_refusal world v call) (left world v (answer_of (shape_at world v) call (shown world v)) (edit_of world v call))
+
+-- the same with another view
+abbrev pub known_refusal_with : World → View → OnOther → View → Option Refusal
+known_refusal_with world v word other = first_refusal (flag_refusal world v (needs_with word)) (lift_refusal v (items_lifted_with word (shown world other)))
+
+abbrev pub answered_known_with : World → View → OnOther → View → Answered
+answered_known_with world v word other = unless_refused (known_refusal_with world v word other) (left world v (answer_with (shape_at world v) word (shown world v) (shown world other)) (edit_with world v word (shown world other)))
+
+-- the answer where items are added to a view that allows it, unless one of them does not pass: in a spot of its base
 abbrev pub added : World → View → List Item → Spot → Answer → Answered
-added world v items spot answer = unless_refused (lift_refusal v items) (carried_out world v answer (Some (adding spot (rows_for v items))))
+added world v items spot answer = unless_refused (lift_refusal v items) (left world v answer (Some (adding spot (rows_for v items))))
+
+-- or at its end
+abbrev pub added_last : World → View → List Item → Answer → Answered
+added_last world v items answer = unless_refused (lift_refusal v items) (left world v answer (Some (adding_last world v (rows_for v items))))
 
 -- the answer where rows of the base under a view go
 abbrev pub removed : World → View → List ℕ → Answer → Answered
-removed world v gone answer = within_rows answer (world_after world (base_under v) (removing gone))
+removed world v gone answer = left world v answer (Some (removing gone))

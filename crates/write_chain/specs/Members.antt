@@ -2,8 +2,8 @@
 use Rattle.std.specs.Prelude.{Bool, false, not, if◌then◌else◌, List, is_some}
 use Rattle.elem.specs.declared.elements.Elem.{Elem}
 use Rattle.elem.specs.Keyed.{value_at}
-use Rattle.view_steps.specs.declared.items.Item.{Item}
-use Rattle.view_steps.specs.declared.items.Item.TheVariants.{One, Entry}
+use Rattle.vocabulary.specs.declared.items.Item.{Item}
+use Rattle.vocabulary.specs.declared.items.Item.TheVariants.{One}
 use Rattle.write_chain.specs.declared.members.Among.{Among}
 
 -- rows that have keys and no values
@@ -16,7 +16,7 @@ is_member rows x = is_some (value_at rows x)
 -- whether an item is one of the elements
 abbrev pub is_among : Members → Item → Bool
 is_among rows (One x) = is_member rows x
-is_among rows (Entry k w) = false
+is_among rows other = false
 
 -- the items that are among them, or those that are not
 abbrev pub among_passes : Among → Item → Bool

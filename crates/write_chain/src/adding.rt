@@ -1,18 +1,19 @@
 //! Adding items to a view that allows it.
 ghost use Rattle.std.specs.Prelude.{◌≡◌, ◌<◌, ◌^◌, ◌-◌, ◌∷◌, [], length, true, Err, ◌≤◌, ◌+◌};
-ghost use Rattle.base_store.specs.BaseRows.{AreRowsOf, IsFree, IsRowOf, IsSpotIn};
+ghost use Rattle.base_rows.specs.BaseRows.{AreRowsOf, IsFree, IsRowOf, IsSpotIn};
 ghost use Rattle.base_store.specs.Stored.{view_in};
-ghost use Rattle.view_steps.specs.Limits.{ChangesUpTo};
-ghost use Rattle.view_steps.specs.Memory.{adds_rows};
-ghost use Rattle.view_steps.specs.Views.{base_at, base_under};
+ghost use Rattle.machine.specs.RowCounts.{ChangesUpTo};
+ghost use Rattle.machine.specs.Memory.{adds_rows};
+ghost use Rattle.machine.specs.Bases.{base_at};
+ghost use Rattle.view_steps.specs.KnownViews.{number_under};
 ghost use Rattle.write_chain.specs.Calls.{Came, added};
-ghost use Rattle.view_steps.specs.declared.refusals.Refusal.TheVariants.{NoMemory};
+ghost use Rattle.vocabulary.specs.declared.refusals.Refusal.TheVariants.{NoMemory};
 
 use crate::lifting::{all_lift, lifts};
 use base_store::{AnyRef, Store};
 use elem::Steps;
 use std::sync::ledger::Ledger;
-use view_steps::{Answer, Item, Refusal, Spot};
+use vocabulary::{Answer, Item, Refusal, Spot};
 
 /// Puts one item in a spot of the base under a view, unless it does not pass, and gives the answer.
 pub(crate) fn add_one<L: Ledger>(
@@ -24,8 +25,8 @@ pub(crate) fn add_one<L: Ledger>(
     steps: &mut Steps<L>,
 ) -> Result<Answer, Refusal>
     requires node { n < length store.old.nodes }
-    requires fits { IsRowOf (base_at store.old.world (base_under (view_in store.old n))).kind item.now }
-    requires spot { IsSpotIn (base_at store.old.world (base_under (view_in store.old n))).kind (length (base_at store.old.world (base_under (view_in store.old n))).rows) spot }
+    requires fits { IsRowOf (base_at store.old.world (number_under (view_in store.old n))).kind item.now }
+    requires spot { IsSpotIn (base_at store.old.world (number_under (view_in store.old n))).kind (length (base_at store.old.world (number_under (view_in store.old n))).rows) spot }
     requires change { ChangesUpTo (2 ^ 63 - 1) store.old.world }
     ensures came { Came result store.old store.new (added store.old.world (view_in store.old n) (item.now ∷ []) spot answer) }
     ensures memory { result ≡ Err NoMemory → adds_rows store.old.world (added store.old.world (view_in store.old n) (item.now ∷ []) spot answer) ≡ true }
@@ -52,8 +53,8 @@ pub(crate) fn add_many<L: Ledger>(
     steps: &mut Steps<L>,
 ) -> Result<Answer, Refusal>
     requires node { n < length store.old.nodes }
-    requires fits { AreRowsOf (base_at store.old.world (base_under (view_in store.old n))).kind items.now }
-    requires spot { IsSpotIn (base_at store.old.world (base_under (view_in store.old n))).kind (length (base_at store.old.world (base_under (view_in store.old n))).rows) spot }
+    requires fits { AreRowsOf (base_at store.old.world (number_under (view_in store.old n))).kind items.now }
+    requires spot { IsSpotIn (base_at store.old.world (number_under (view_in store.old n))).kind (length (base_at store.old.world (number_under (view_in store.old n))).rows) spot }
     requires free { IsFree spot }
     requires change { ChangesUpTo (2 ^ 63 - 1) store.old.world }
     ensures { Came result store.old store.new (added store.old.world (view_in store.old n) items.now spot answer) }

@@ -1,18 +1,20 @@
 //! The calls on views.
 ghost use Rattle.std.specs.Prelude.{◌≡◌, ◌<◌, ◌≤◌, ◌+◌, ◌^◌, ◌-◌, ℕ, false, length, true, Err};
 ghost use Rattle.base_store.specs.Stored.{view_in};
-ghost use Rattle.view_steps.specs.Answering.{answered, answered_with};
-ghost use Rattle.view_steps.specs.Calls as spec;
-ghost use Rattle.view_steps.specs.Indexes.{is_list};
-ghost use Rattle.view_steps.specs.Limits.{ChangesUpTo, rows_in, most_rows};
-ghost use Rattle.view_steps.specs.Shapes.{is_keyed};
-ghost use Rattle.view_steps.specs.Steps as table;
-ghost use Rattle.view_steps.specs.Views.{flags_at, shape_at};
-ghost use Rattle.view_steps.specs.declared.calls.Call.TheVariants as calls;
-ghost use Rattle.view_steps.specs.declared.refusals.Refusal.TheVariants.{NoMemory};
+ghost use Rattle.machine.specs.Answering.{answered, answered_with};
+ghost use Rattle.vocabulary.specs.Fits as spec;
+ghost use Rattle.machine.specs.RowCounts.{ChangesUpTo, rows_in};
+ghost use Rattle.vocabulary.specs.Limits.{most_rows};
+ghost use Rattle.vocabulary.specs.Known.{form_of_call, is_known_ask, is_known_call, is_known_element, is_known_other, is_known_pair};
+ghost use Rattle.vocabulary.specs.Needs.{needs_of, needs_with};
+ghost use Rattle.vocabulary.specs.Shapes.{is_keyed, is_list};
+ghost use Rattle.vocabulary.specs.Steps as table;
+ghost use Rattle.machine.specs.Views.{flags_at, shape_at};
+ghost use Rattle.vocabulary.specs.declared.calls.Call.TheVariants as calls;
+ghost use Rattle.vocabulary.specs.declared.refusals.Refusal.TheVariants.{NoMemory};
 ghost use Rattle.read_chain.specs.Reads.{is_look_up};
-ghost use Rattle.write_chain.specs.Calls.{Came, is_single};
-ghost use Rattle.view_steps.specs.Memory.{adds_rows, wants_memory_with};
+ghost use Rattle.write_chain.specs.Calls.{Came, answered_known, answered_known_with, is_single};
+ghost use Rattle.machine.specs.Memory.{adds_rows, wants_memory, wants_memory_with};
 
 use crate::clearing::clear;
 use crate::others::{add_all, put_all, remove_others};
@@ -22,12 +24,12 @@ use base_store::{AnyRef, Store};
 use elem::{Elem, Steps};
 use read_chain::{contains_all, read};
 use std::sync::ledger::Ledger;
-use view_steps::{
+use vocabulary::{
     Answer, Ask, Call, Item, OnElement, OnIndex, OnIndexed, OnOther, OnPair, Refusal, lacks,
     needs_of, needs_with,
 };
 
-/// Answers a call on a view, and changes the base under it as the call says.
+/// Answers a known call on a view, and changes the base under it as the call says.
 ///
 /// # Errors
 ///
@@ -41,14 +43,16 @@ pub fn call<L: Ledger>(
     steps: &mut Steps<L>,
 ) -> Result<Answer, Refusal>
     requires node { n < length store.old.nodes }
+    requires known { is_known_call (form_of_call call.now) ≡ true }
     requires fits { spec.fits (shape_at store.old.world (view_in store.old n)) call.now ≡ true }
     requires change { ChangesUpTo (2 ^ 63 - 1) store.old.world }
     ensures came { Came result store.old store.new (answered store.old.world (view_in store.old n) call.now) }
-    ensures memory { result ≡ Err NoMemory → adds_rows store.old.world (answered store.old.world (view_in store.old n) call.now) ≡ true }
+    ensures memory { result ≡ Err NoMemory → wants_memory store.old.world (view_in store.old n) call.now (answered store.old.world (view_in store.old n) call.now) ≡ true }
     ensures changes { (most : ℕ) → ChangesUpTo most store.old.world → ChangesUpTo (most + 1) store.new.world }
     ensures steps { is_single call.now ≡ true → is_keyed (shape_at store.old.world (view_in store.old n)) ≡ true → steps.new ≤ steps.old + 4 }
     ensures looks_up { is_look_up call.now ≡ true → is_keyed (shape_at store.old.world (view_in store.old n)) ≡ true → steps.new ≤ steps.old + 1 }
 {
+    let _base = store.base_of(n);
     let flags = store.flags_of(n);
     if lacks(flags, needs_of(call)) {
         return Err(Refusal::UnsupportedOperation);
@@ -64,11 +68,12 @@ fn carry_out<L: Ledger>(
     steps: &mut Steps<L>,
 ) -> Result<Answer, Refusal>
     requires node { n < length store.old.nodes }
+    requires known { is_known_call (form_of_call call.now) ≡ true }
     requires fits { spec.fits (shape_at store.old.world (view_in store.old n)) call.now ≡ true }
-    requires allowed { table.lacks (flags_at store.old.world (view_in store.old n)) (spec.needs_of call.now) ≡ false }
+    requires allowed { table.lacks (flags_at store.old.world (view_in store.old n)) (needs_of call.now) ≡ false }
     requires change { ChangesUpTo (2 ^ 63 - 1) store.old.world }
-    ensures came { Came result store.old store.new (answered store.old.world (view_in store.old n) call.now) }
-    ensures memory { result ≡ Err NoMemory → adds_rows store.old.world (answered store.old.world (view_in store.old n) call.now) ≡ true }
+    ensures came { Came result store.old store.new (answered_known store.old.world (view_in store.old n) call.now) }
+    ensures memory { result ≡ Err NoMemory → adds_rows store.old.world (answered_known store.old.world (view_in store.old n) call.now) ≡ true }
     ensures steps { is_single call.now ≡ true → is_keyed (shape_at store.old.world (view_in store.old n)) ≡ true → steps.new ≤ steps.old + 4 }
     ensures looks_up { is_look_up call.now ≡ true → is_keyed (shape_at store.old.world (view_in store.old n)) ≡ true → steps.new ≤ steps.old + 1 }
 {
@@ -78,6 +83,7 @@ fn carry_out<L: Ledger>(
         Call::Index(word, i) => on_index(store, n, *word, *i, steps),
         Call::Indexed(word, i, x) => on_indexed(store, n, *word, *i, x, steps),
         Call::Pair(word, k, w) => on_pair(store, n, *word, k, w, steps),
+        _ => unreachable!(),
     }
 }
 
@@ -88,11 +94,12 @@ fn on_ask<L: Ledger>(
     steps: &mut Steps<L>,
 ) -> Result<Answer, Refusal>
     requires node { n < length store.old.nodes }
+    requires known { is_known_ask word ≡ true }
     requires fits { spec.fits (shape_at store.old.world (view_in store.old n)) (calls.Ask word) ≡ true }
-    requires allowed { table.lacks (flags_at store.old.world (view_in store.old n)) (spec.needs_of (calls.Ask word)) ≡ false }
+    requires allowed { table.lacks (flags_at store.old.world (view_in store.old n)) (needs_of (calls.Ask word)) ≡ false }
     requires change { ChangesUpTo (2 ^ 63 - 1) store.old.world }
-    ensures came { Came result store.old store.new (answered store.old.world (view_in store.old n) (calls.Ask word)) }
-    ensures memory { result ≡ Err NoMemory → adds_rows store.old.world (answered store.old.world (view_in store.old n) (calls.Ask word)) ≡ true }
+    ensures came { Came result store.old store.new (answered_known store.old.world (view_in store.old n) (calls.Ask word)) }
+    ensures memory { result ≡ Err NoMemory → adds_rows store.old.world (answered_known store.old.world (view_in store.old n) (calls.Ask word)) ≡ true }
     ensures steps { is_single (calls.Ask word) ≡ true → is_keyed (shape_at store.old.world (view_in store.old n)) ≡ true → steps.new ≤ steps.old + 4 }
 {
     match word {
@@ -109,11 +116,12 @@ fn on_element<L: Ledger>(
     steps: &mut Steps<L>,
 ) -> Result<Answer, Refusal>
     requires node { n < length store.old.nodes }
+    requires known { is_known_element word ≡ true }
     requires fits { spec.fits (shape_at store.old.world (view_in store.old n)) (calls.Element word x.now) ≡ true }
-    requires allowed { table.lacks (flags_at store.old.world (view_in store.old n)) (spec.needs_of (calls.Element word x.now)) ≡ false }
+    requires allowed { table.lacks (flags_at store.old.world (view_in store.old n)) (needs_of (calls.Element word x.now)) ≡ false }
     requires change { ChangesUpTo (2 ^ 63 - 1) store.old.world }
-    ensures came { Came result store.old store.new (answered store.old.world (view_in store.old n) (calls.Element word x.now)) }
-    ensures memory { result ≡ Err NoMemory → adds_rows store.old.world (answered store.old.world (view_in store.old n) (calls.Element word x.now)) ≡ true }
+    ensures came { Came result store.old store.new (answered_known store.old.world (view_in store.old n) (calls.Element word x.now)) }
+    ensures memory { result ≡ Err NoMemory → adds_rows store.old.world (answered_known store.old.world (view_in store.old n) (calls.Element word x.now)) ≡ true }
     ensures steps { is_single (calls.Element word x.now) ≡ true → is_keyed (shape_at store.old.world (view_in store.old n)) ≡ true → steps.new ≤ steps.old + 4 }
     ensures looks_up { is_look_up (calls.Element word x.now) ≡ true → is_keyed (shape_at store.old.world (view_in store.old n)) ≡ true → steps.new ≤ steps.old + 1 }
 {
@@ -134,10 +142,10 @@ fn on_index<L: Ledger>(
 ) -> Result<Answer, Refusal>
     requires node { n < length store.old.nodes }
     requires fits { is_list (shape_at store.old.world (view_in store.old n)) ≡ true }
-    requires allowed { table.lacks (flags_at store.old.world (view_in store.old n)) (spec.needs_of (calls.Index word i)) ≡ false }
+    requires allowed { table.lacks (flags_at store.old.world (view_in store.old n)) (needs_of (calls.Index word i)) ≡ false }
     requires change { ChangesUpTo (2 ^ 63 - 1) store.old.world }
-    ensures came { Came result store.old store.new (answered store.old.world (view_in store.old n) (calls.Index word i)) }
-    ensures memory { result ≡ Err NoMemory → adds_rows store.old.world (answered store.old.world (view_in store.old n) (calls.Index word i)) ≡ true }
+    ensures came { Came result store.old store.new (answered_known store.old.world (view_in store.old n) (calls.Index word i)) }
+    ensures memory { result ≡ Err NoMemory → adds_rows store.old.world (answered_known store.old.world (view_in store.old n) (calls.Index word i)) ≡ true }
     ensures steps { is_single (calls.Index word i) ≡ true → is_keyed (shape_at store.old.world (view_in store.old n)) ≡ true → steps.new ≤ steps.old + 4 }
 {
     match word {
@@ -156,10 +164,10 @@ fn on_indexed<L: Ledger>(
 ) -> Result<Answer, Refusal>
     requires node { n < length store.old.nodes }
     requires fits { is_list (shape_at store.old.world (view_in store.old n)) ≡ true }
-    requires allowed { table.lacks (flags_at store.old.world (view_in store.old n)) (spec.needs_of (calls.Indexed word i x.now)) ≡ false }
+    requires allowed { table.lacks (flags_at store.old.world (view_in store.old n)) (needs_of (calls.Indexed word i x.now)) ≡ false }
     requires change { ChangesUpTo (2 ^ 63 - 1) store.old.world }
-    ensures came { Came result store.old store.new (answered store.old.world (view_in store.old n) (calls.Indexed word i x.now)) }
-    ensures memory { result ≡ Err NoMemory → adds_rows store.old.world (answered store.old.world (view_in store.old n) (calls.Indexed word i x.now)) ≡ true }
+    ensures came { Came result store.old store.new (answered_known store.old.world (view_in store.old n) (calls.Indexed word i x.now)) }
+    ensures memory { result ≡ Err NoMemory → adds_rows store.old.world (answered_known store.old.world (view_in store.old n) (calls.Indexed word i x.now)) ≡ true }
     ensures steps { is_single (calls.Indexed word i x.now) ≡ true → is_keyed (shape_at store.old.world (view_in store.old n)) ≡ true → steps.new ≤ steps.old + 4 }
 {
     match word {
@@ -177,11 +185,12 @@ fn on_pair<L: Ledger>(
     steps: &mut Steps<L>,
 ) -> Result<Answer, Refusal>
     requires node { n < length store.old.nodes }
+    requires known { is_known_pair word ≡ true }
     requires fits { spec.fits (shape_at store.old.world (view_in store.old n)) (calls.Pair word k.now w.now) ≡ true }
-    requires allowed { table.lacks (flags_at store.old.world (view_in store.old n)) (spec.needs_of (calls.Pair word k.now w.now)) ≡ false }
+    requires allowed { table.lacks (flags_at store.old.world (view_in store.old n)) (needs_of (calls.Pair word k.now w.now)) ≡ false }
     requires change { ChangesUpTo (2 ^ 63 - 1) store.old.world }
-    ensures came { Came result store.old store.new (answered store.old.world (view_in store.old n) (calls.Pair word k.now w.now)) }
-    ensures memory { result ≡ Err NoMemory → adds_rows store.old.world (answered store.old.world (view_in store.old n) (calls.Pair word k.now w.now)) ≡ true }
+    ensures came { Came result store.old store.new (answered_known store.old.world (view_in store.old n) (calls.Pair word k.now w.now)) }
+    ensures memory { result ≡ Err NoMemory → adds_rows store.old.world (answered_known store.old.world (view_in store.old n) (calls.Pair word k.now w.now)) ≡ true }
     ensures steps { is_single (calls.Pair word k.now w.now) ≡ true → is_keyed (shape_at store.old.world (view_in store.old n)) ≡ true → steps.new ≤ steps.old + 4 }
     ensures looks_up { is_look_up (calls.Pair word k.now w.now) ≡ true → is_keyed (shape_at store.old.world (view_in store.old n)) ≡ true → steps.new ≤ steps.old + 1 }
 {
@@ -189,10 +198,11 @@ fn on_pair<L: Ledger>(
         OnPair::Put => put(store, n, k, w, steps),
         OnPair::ContainsEntry => read(store, n, &Call::Pair(word, *k, *w), steps),
         OnPair::RemoveEntry => Ok(remove_item(store, n, &Item::Entry(*k, *w), steps)),
+        _ => unreachable!(),
     }
 }
 
-/// Answers a call with another view, which is read whole before anything changes.
+/// Answers a known call with another view, which is read whole before anything changes.
 ///
 /// # Errors
 ///
@@ -206,12 +216,15 @@ pub fn call_with<L: Ledger>(
 ) -> Result<Answer, Refusal>
     requires node { n < length store.old.nodes }
     requires other { other < length store.old.nodes }
+    requires known { is_known_other word ≡ true }
     requires fits { spec.fits_with (shape_at store.old.world (view_in store.old n)) word (shape_at store.old.world (view_in store.old other)) ≡ true }
     requires change { ChangesUpTo (2 ^ 63 - 1) store.old.world }
     ensures came { Came result store.old store.new (answered_with store.old.world (view_in store.old n) word (view_in store.old other)) }
     ensures memory { result ≡ Err NoMemory → wants_memory_with store.old.world (view_in store.old n) word ≡ true }
     ensures changes { (most : ℕ) → ChangesUpTo most store.old.world → ChangesUpTo (most + 1) store.new.world }
 {
+    let _base = store.base_of(n);
+    let _other = store.base_of(other);
     let flags = store.flags_of(n);
     if lacks(flags, needs_with(word)) {
         return Err(Refusal::UnsupportedOperation);
@@ -229,10 +242,11 @@ fn carry_out_with<L: Ledger>(
 ) -> Result<Answer, Refusal>
     requires node { n < length store.old.nodes }
     requires other { other < length store.old.nodes }
+    requires known { is_known_other word ≡ true }
     requires fits { spec.fits_with (shape_at store.old.world (view_in store.old n)) word (shape_at store.old.world (view_in store.old other)) ≡ true }
-    requires allowed { table.lacks (flags_at store.old.world (view_in store.old n)) (spec.needs_with word) ≡ false }
+    requires allowed { table.lacks (flags_at store.old.world (view_in store.old n)) (needs_with word) ≡ false }
     requires change { ChangesUpTo (2 ^ 63 - 1) store.old.world }
-    ensures came { Came result store.old store.new (answered_with store.old.world (view_in store.old n) word (view_in store.old other)) }
+    ensures came { Came result store.old store.new (answered_known_with store.old.world (view_in store.old n) word (view_in store.old other)) }
     ensures memory { result ≡ Err NoMemory → wants_memory_with store.old.world (view_in store.old n) word ≡ true }
 {
     match word {
@@ -241,5 +255,6 @@ fn carry_out_with<L: Ledger>(
         OnOther::RemoveAll => remove_others(store, n, other, false, steps),
         OnOther::RetainAll => remove_others(store, n, other, true, steps),
         OnOther::PutAll => put_all(store, n, other, steps),
+        _ => unreachable!(),
     }
 }

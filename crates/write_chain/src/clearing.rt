@@ -1,17 +1,17 @@
 //! Removing all that a view shows, or all of it that passes a test.
 ghost use Rattle.std.specs.Prelude.{◌≡◌, ◌<◌, ◌^◌, ◌-◌, Ok, length, true};
 ghost use Rattle.base_store.specs.Stored.{view_in};
-ghost use Rattle.view_steps.specs.Answering.{all_hits};
-ghost use Rattle.view_steps.specs.Limits.{ChangesUpTo};
-ghost use Rattle.view_steps.specs.Views.{candidates};
-ghost use Rattle.view_steps.specs.declared.answers.Answer.TheVariants as answers;
+ghost use Rattle.machine.specs.CallEdits.{all_hits};
+ghost use Rattle.machine.specs.RowCounts.{ChangesUpTo};
+ghost use Rattle.machine.specs.Views.{candidates};
+ghost use Rattle.vocabulary.specs.declared.answers.Answer.TheVariants as answers;
 ghost use Rattle.write_chain.specs.Calls.{Came, removed};
 
 use base_store::{AnyRef, Store};
 use elem::Steps;
 use read_chain::ItemTest;
 use std::sync::ledger::Ledger;
-use view_steps::Answer;
+use vocabulary::Answer;
 
 /// Removes all that a view shows. What is hidden stays.
 pub(crate) fn clear<L: Ledger>(store: &mut Store, n: AnyRef, steps: &mut Steps<L>) -> Answer

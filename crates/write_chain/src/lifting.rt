@@ -2,10 +2,10 @@
 ghost use Rattle.std.specs.Prelude.{◌≡◌, ◌<◌, length, is_some};
 ghost use Rattle.std.specs.List.{list_all};
 ghost use Rattle.base_store.specs.Stored.{view_in};
-ghost use Rattle.view_steps.specs.Views.{lift as lifted_item};
+ghost use Rattle.machine.specs.Views.{lift as lifted_item};
 
 use base_store::{AnyRef, Node, Store};
-use view_steps::{Item, passes};
+use vocabulary::{Item, lifted};
 
 /// Whether an item that is added passes each step down to the base. It is the row then.
 pub(crate) fn lifts(store: &Store, n: AnyRef, item: &Item) -> bool
@@ -14,7 +14,10 @@ pub(crate) fn lifts(store: &Store, n: AnyRef, item: &Item) -> bool
 {
     match store.node(n) {
         Node::Base(_) => true,
-        Node::Step { step, parent } => passes(&step, item) && lifts(store, parent, item),
+        Node::Step { step, parent } => match lifted(&step, item) {
+            Some(below) => lifts(store, parent, &below),
+            None => false,
+        },
     }
 }
 

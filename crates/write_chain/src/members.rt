@@ -4,17 +4,18 @@ ghost use Rattle.std.specs.List.{list_any};
 ghost use Rattle.base_store.specs.Stored.{view_in};
 ghost use Rattle.elem.specs.declared.elements.Elem.{Elem as AnyElem};
 ghost use Rattle.elem.specs.Elements as elements;
-ghost use Rattle.view_steps.specs.Answers.{has_key};
-ghost use Rattle.view_steps.specs.Views.{shown};
-ghost use Rattle.view_steps.specs.declared.refusals.Refusal.TheVariants as refusals;
+ghost use Rattle.machine.specs.Shown.{has_key};
+ghost use Rattle.machine.specs.Views.{shown};
+ghost use Rattle.vocabulary.specs.declared.refusals.Refusal.TheVariants as refusals;
 ghost use Rattle.write_chain.specs.Members as spec;
 
-use base_store::{AnyRef, RowTest, Store};
+use base_rows::RowTest;
+use base_store::{AnyRef, Store};
 use elem::{Elem, NoMemory, Steps};
 use linked_base::FreeLinkedMap;
 use read_chain::Walk;
 use std::sync::ledger::Ledger;
-use view_steps::{Item, Refusal, key_of};
+use vocabulary::{Item, Refusal, key_of};
 
 /// The items that a view shows, in order.
 ///
@@ -87,7 +88,7 @@ fn is_among(members: &FreeLinkedMap<()>, item: &Item) -> bool
 {
     match item {
         Item::One(x) => members.probe(*x).is_some(),
-        Item::Entry(_, _) => false,
+        _ => false,
     }
 }
 

@@ -1,28 +1,30 @@
 //! The calls with another view, on a view that allows them.
 ghost use Rattle.std.specs.Prelude.{◌≡◌, ◌<◌, ◌^◌, ◌-◌, Ok, cond, false, length, not, true};
 ghost use Rattle.std.specs.List.{list_any};
-ghost use Rattle.base_store.specs.BaseRows.{AreRowsOf};
+ghost use Rattle.base_rows.specs.BaseRows.{AreRowsOf};
 ghost use Rattle.base_store.specs.Stored.{view_in};
-ghost use Rattle.view_steps.specs.Answering.{all_hits, end_of_view};
-ghost use Rattle.view_steps.specs.Answers as answering;
-ghost use Rattle.view_steps.specs.Calls as spec;
-ghost use Rattle.view_steps.specs.Limits.{ChangesUpTo};
-ghost use Rattle.view_steps.specs.Shapes.{is_keyed};
-ghost use Rattle.view_steps.specs.Views.{base_at, base_under, candidates, flags_at, shape_at, shown};
-ghost use Rattle.view_steps.specs.declared.answers.Answer.TheVariants as answers;
-ghost use Rattle.view_steps.specs.declared.edits.Spot.TheVariants as spots;
-ghost use Rattle.write_chain.specs.Calls.{Came, added, removed};
+ghost use Rattle.machine.specs.CallEdits.{all_hits};
+ghost use Rattle.machine.specs.Answers as answering;
+ghost use Rattle.vocabulary.specs.Shapes as shapes;
+ghost use Rattle.machine.specs.Shown as found;
+ghost use Rattle.machine.specs.RowCounts.{ChangesUpTo};
+ghost use Rattle.vocabulary.specs.Shapes.{is_keyed};
+ghost use Rattle.machine.specs.Bases.{base_at};
+ghost use Rattle.machine.specs.Views.{candidates, flags_at, shape_at, shown};
+ghost use Rattle.view_steps.specs.KnownViews.{number_under};
+ghost use Rattle.vocabulary.specs.declared.answers.Answer.TheVariants as answers;
+ghost use Rattle.vocabulary.specs.declared.edits.Spot.TheVariants as spots;
+ghost use Rattle.write_chain.specs.Calls.{Came, added, added_last, removed};
 ghost use Rattle.write_chain.specs.Members.{among_passes};
 
 use crate::adding::add_many;
 use crate::members::{Among, collected, members_of};
-use crate::putting::is_set;
 use crate::spots::end_spot;
 use base_store::{AnyRef, Store};
 use elem::Steps;
 use read_chain::{contains_all, goes_by_key};
 use std::sync::ledger::Ledger;
-use view_steps::{Answer, Item, Refusal, Spot};
+use vocabulary::{Answer, Item, Refusal, Spot, has_each_once};
 
 /// Removes what a view shows and a test passes, and tells whether there was such an item. Where only a few elements pass,
 /// and no two items have the same key, it looks these up, and passes over no others.
@@ -65,11 +67,11 @@ pub(crate) fn remove_others<L: Ledger>(
 ) -> Result<Answer, Refusal>
     requires node { n < length store.old.nodes }
     requires other { other < length store.old.nodes }
-    requires elements { spec.is_elements (shape_at store.old.world (view_in store.old other)) ≡ true }
+    requires elements { shapes.is_elements (shape_at store.old.world (view_in store.old other)) ≡ true }
     requires change { ChangesUpTo (2 ^ 63 - 1) store.old.world }
     ensures { Came result store.old store.new (removed store.old.world (view_in store.old n)
-        (all_hits (λ item. cond out (not (answering.is_shown (shown store.old.world (view_in store.old other)) item)) (answering.is_shown (shown store.old.world (view_in store.old other)) item)) (candidates store.old.world (view_in store.old n)))
-        (answers.Truth (list_any (λ item. cond out (not (answering.is_shown (shown store.old.world (view_in store.old other)) item)) (answering.is_shown (shown store.old.world (view_in store.old other)) item)) (shown store.old.world (view_in store.old n))))) }
+        (all_hits (λ item. cond out (not (found.is_shown (shown store.old.world (view_in store.old other)) item)) (found.is_shown (shown store.old.world (view_in store.old other)) item)) (candidates store.old.world (view_in store.old n)))
+        (answers.Truth (list_any (λ item. cond out (not (found.is_shown (shown store.old.world (view_in store.old other)) item)) (found.is_shown (shown store.old.world (view_in store.old other)) item)) (shown store.old.world (view_in store.old n))))) }
 {
     let b = store.base_of(other);
     store.rows_fit(b);
@@ -90,9 +92,9 @@ fn adds_something<L: Ledger>(
     requires node { n < length store.now.nodes }
     requires other { other < length store.now.nodes }
     requires items { items.now ≡ shown store.now.world (view_in store.now other) }
-    ensures { result ≡ answering.adds_something (spec.is_set (shape_at store.now.world (view_in store.now n))) (shown store.now.world (view_in store.now n)) (shown store.now.world (view_in store.now other)) }
+    ensures { result ≡ answering.adds_something (shape_at store.now.world (view_in store.now n)) (shown store.now.world (view_in store.now n)) (shown store.now.world (view_in store.now other)) }
 {
-    if is_set(store, n) {
+    if has_each_once(store.shape(n)) {
         !contains_all(store, n, other, steps)
     } else {
         !items.is_empty()
@@ -108,13 +110,14 @@ pub(crate) fn add_all<L: Ledger>(
 ) -> Result<Answer, Refusal>
     requires node { n < length store.old.nodes }
     requires other { other < length store.old.nodes }
-    requires elements { spec.is_elements (shape_at store.old.world (view_in store.old n)) ≡ true }
-    requires others { spec.is_elements (shape_at store.old.world (view_in store.old other)) ≡ true }
+    requires elements { shapes.is_elements (shape_at store.old.world (view_in store.old n)) ≡ true }
+    requires others { shapes.is_elements (shape_at store.old.world (view_in store.old other)) ≡ true }
     requires adds { (flags_at store.old.world (view_in store.old n)).add ≡ true }
     requires change { ChangesUpTo (2 ^ 63 - 1) store.old.world }
-    ensures { Came result store.old store.new (added store.old.world (view_in store.old n) (shown store.old.world (view_in store.old other)) (end_of_view store.old.world (view_in store.old n))
-        (answers.Truth (answering.adds_something (spec.is_set (shape_at store.old.world (view_in store.old n))) (shown store.old.world (view_in store.old n)) (shown store.old.world (view_in store.old other))))) }
+    ensures { Came result store.old store.new (added_last store.old.world (view_in store.old n) (shown store.old.world (view_in store.old other))
+        (answers.Truth (answering.adds_something (shape_at store.old.world (view_in store.old n)) (shown store.old.world (view_in store.old n)) (shown store.old.world (view_in store.old other))))) }
 {
+    let _base = store.base_of(n);
     let b = store.base_of(other);
     store.rows_fit(b);
     match collected(store, other, steps) {
@@ -137,12 +140,13 @@ pub(crate) fn put_all<L: Ledger>(
 ) -> Result<Answer, Refusal>
     requires node { n < length store.old.nodes }
     requires other { other < length store.old.nodes }
-    requires map { spec.is_map (shape_at store.old.world (view_in store.old n)) ≡ true }
-    requires others { spec.is_map (shape_at store.old.world (view_in store.old other)) ≡ true }
+    requires map { shapes.is_map (shape_at store.old.world (view_in store.old n)) ≡ true }
+    requires others { shapes.is_map (shape_at store.old.world (view_in store.old other)) ≡ true }
     requires adds { (flags_at store.old.world (view_in store.old n)).add ≡ true }
     requires change { ChangesUpTo (2 ^ 63 - 1) store.old.world }
     ensures { Came result store.old store.new (added store.old.world (view_in store.old n) (shown store.old.world (view_in store.old other)) spots.Own answers.Done) }
 {
+    let _base = store.base_of(n);
     let b = store.base_of(other);
     store.rows_fit(b);
     match collected(store, other, steps) {

@@ -1,17 +1,20 @@
 //! Removing the candidate at a place of a view, as an iterator does.
 ghost use Rattle.std.specs.Prelude.{◌≡◌, ◌↔◌, ◌<◌, ◌≤◌, ◌+◌, ◌-◌, ◌^◌, ℕ, Err, OnErr, OnOk, Some, false, length, slice_get};
 ghost use Rattle.base_store.specs.Stored.{view_in, with_world};
-ghost use Rattle.view_steps.specs.Edits.{removing, world_after};
+ghost use Rattle.machine.specs.Edits.{removing};
+ghost use Rattle.view_steps.specs.KnownViews.{edited_at, number_under};
 ghost use Rattle.view_steps.specs.Lanes.{IsFrom};
-ghost use Rattle.view_steps.specs.Limits.{ChangesUpTo};
+ghost use Rattle.machine.specs.RowCounts.{ChangesUpTo};
 ghost use Rattle.view_steps.specs.Places.{places, StandsFor};
-ghost use Rattle.view_steps.specs.Views.{Candidate, base_under, candidates, flags_at};
-ghost use Rattle.view_steps.specs.declared.refusals.Refusal.TheVariants.{UnsupportedOperation};
+ghost use Rattle.machine.specs.Candidates.{Candidate};
+ghost use Rattle.machine.specs.Views.{candidates, flags_at};
+ghost use Rattle.vocabulary.specs.declared.refusals.Refusal.TheVariants.{UnsupportedOperation};
 
 use base_store::{AnyRef, Store};
 use elem::Steps;
 use std::sync::ledger::Ledger;
-use view_steps::{Place, Refusal};
+use view_steps::Place;
+use vocabulary::Refusal;
 
 /// Removes the rows for which the candidate at a place of a view stands, in one call of its base. It is refused where
 /// the view allows no removal, and then nothing has changed. It takes no memory.
@@ -25,7 +28,7 @@ pub fn drop_place<L: Ledger>(
     requires place { IsFrom (places store.old.world (view_in store.old n)) (Some at.now) }
     requires change { ChangesUpTo (2 ^ 63 - 1) store.old.world }
     ensures after { OnOk result ((i : ℕ) (c : Candidate) → StandsFor store.old.world (view_in store.old n) at.now i → slice_get (candidates store.old.world (view_in store.old n)) i ≡ Some c
-        → store.new ≡ with_world store.old (world_after store.old.world (base_under (view_in store.old n)) (removing c.rows))) }
+        → store.new ≡ with_world store.old (edited_at store.old.world (number_under (view_in store.old n)) (removing c.rows))) }
     ensures err { OnErr result (store.new ≡ store.old) }
     ensures refused { result ≡ Err UnsupportedOperation ↔ (flags_at store.old.world (view_in store.old n)).remove ≡ false }
     ensures steps { steps.new ≤ steps.old + 1 }

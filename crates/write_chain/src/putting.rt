@@ -1,19 +1,18 @@
 //! The calls that add one item to a view that allows it.
 ghost use Rattle.std.specs.Prelude.{◌≡◌, ◌<◌, ◌^◌, ◌-◌, length, true, Err, ◌≤◌, ◌+◌};
 ghost use Rattle.base_store.specs.Stored.{view_in};
-ghost use Rattle.view_steps.specs.Answering.{answered};
-ghost use Rattle.view_steps.specs.Calls as spec;
-ghost use Rattle.view_steps.specs.Indexes.{is_list};
-ghost use Rattle.view_steps.specs.Limits.{ChangesUpTo};
-ghost use Rattle.view_steps.specs.Memory.{adds_rows};
-ghost use Rattle.view_steps.specs.Shapes.{is_keyed};
-ghost use Rattle.view_steps.specs.Views.{flags_at, shape_at};
-ghost use Rattle.view_steps.specs.declared.calls.Call.TheVariants as calls;
-ghost use Rattle.view_steps.specs.declared.calls.OnElement.TheVariants as on_element;
-ghost use Rattle.view_steps.specs.declared.calls.OnIndexed.TheVariants as on_indexed;
-ghost use Rattle.view_steps.specs.declared.calls.OnPair.TheVariants as on_pair;
-ghost use Rattle.write_chain.specs.Calls.{Came};
-ghost use Rattle.view_steps.specs.declared.refusals.Refusal.TheVariants.{NoMemory};
+ghost use Rattle.vocabulary.specs.Shapes.{is_elements, is_list, is_map};
+ghost use Rattle.machine.specs.RowCounts.{ChangesUpTo};
+ghost use Rattle.machine.specs.Memory.{adds_rows};
+ghost use Rattle.vocabulary.specs.Shapes.{is_keyed};
+ghost use Rattle.machine.specs.Answers.{is_added};
+ghost use Rattle.machine.specs.Views.{flags_at, shape_at, shown};
+ghost use Rattle.vocabulary.specs.declared.calls.Call.TheVariants as calls;
+ghost use Rattle.vocabulary.specs.declared.calls.OnElement.TheVariants as on_element;
+ghost use Rattle.vocabulary.specs.declared.calls.OnIndexed.TheVariants as on_indexed;
+ghost use Rattle.vocabulary.specs.declared.calls.OnPair.TheVariants as on_pair;
+ghost use Rattle.write_chain.specs.Calls.{Came, answered_known};
+ghost use Rattle.vocabulary.specs.declared.refusals.Refusal.TheVariants.{NoMemory};
 
 use crate::adding::add_one;
 use crate::spots::end_spot;
@@ -21,14 +20,19 @@ use base_store::{AnyRef, Store};
 use elem::{Elem, Steps};
 use read_chain::{contains, gap_index, item_at, item_index, map_get};
 use std::sync::ledger::Ledger;
-use view_steps::{Answer, Item, Refusal, Shape, Spot, key_of};
+use vocabulary::{Answer, Item, Refusal, Spot, has_each_once, key_of};
 
-/// Whether a view is a set.
-pub(crate) fn is_set(store: &Store, n: AnyRef) -> bool
+/// Whether an item is none of what a view shows, or may stand there again.
+fn is_new<L: Ledger>(store: &Store, n: AnyRef, item: &Item, steps: &mut Steps<L>) -> bool
     requires { n < length store.now.nodes }
-    ensures { result ≡ spec.is_set (shape_at store.now.world (view_in store.now n)) }
+    ensures new { result ≡ is_added (shape_at store.now.world (view_in store.now n)) (shown store.now.world (view_in store.now n)) item.now }
+    ensures step { is_keyed (shape_at store.now.world (view_in store.now n)) ≡ true → steps.new ≤ steps.old + 1 }
 {
-    matches!(store.shape(n), Shape::Set { .. })
+    if has_each_once(store.shape(n)) {
+        !contains(store, n, item, steps)
+    } else {
+        true
+    }
 }
 
 /// Adds an element at the end. A set that shows it stays as it is.
@@ -39,17 +43,18 @@ pub(crate) fn add<L: Ledger>(
     steps: &mut Steps<L>,
 ) -> Result<Answer, Refusal>
     requires node { n < length store.old.nodes }
-    requires elements { spec.is_elements (shape_at store.old.world (view_in store.old n)) ≡ true }
+    requires elements { is_elements (shape_at store.old.world (view_in store.old n)) ≡ true }
     requires adds { (flags_at store.old.world (view_in store.old n)).add ≡ true }
     requires change { ChangesUpTo (2 ^ 63 - 1) store.old.world }
-    ensures came { Came result store.old store.new (answered store.old.world (view_in store.old n) (calls.Element on_element.Add x.now)) }
-    ensures memory { result ≡ Err NoMemory → adds_rows store.old.world (answered store.old.world (view_in store.old n) (calls.Element on_element.Add x.now)) ≡ true }
+    ensures came { Came result store.old store.new (answered_known store.old.world (view_in store.old n) (calls.Element on_element.Add x.now)) }
+    ensures memory { result ≡ Err NoMemory → adds_rows store.old.world (answered_known store.old.world (view_in store.old n) (calls.Element on_element.Add x.now)) ≡ true }
     ensures steps { is_keyed (shape_at store.old.world (view_in store.old n)) ≡ true → steps.new ≤ steps.old + 4 }
 {
+    let _base = store.base_of(n);
     let item = Item::One(*x);
-    let old = is_set(store, n) && contains(store, n, &item, steps);
+    let new = is_new(store, n, &item, steps);
     let spot = end_spot(store, n);
-    add_one(store, n, &item, spot, Answer::Truth(!old), steps)
+    add_one(store, n, &item, spot, Answer::Truth(new), steps)
 }
 
 /// Puts an element before that of an index, or at the end of a list.
@@ -64,8 +69,8 @@ pub(crate) fn add_at<L: Ledger>(
     requires list { is_list (shape_at store.old.world (view_in store.old n)) ≡ true }
     requires adds { (flags_at store.old.world (view_in store.old n)).add ≡ true }
     requires change { ChangesUpTo (2 ^ 63 - 1) store.old.world }
-    ensures came { Came result store.old store.new (answered store.old.world (view_in store.old n) (calls.Indexed on_indexed.AddAt i x.now)) }
-    ensures memory { result ≡ Err NoMemory → adds_rows store.old.world (answered store.old.world (view_in store.old n) (calls.Indexed on_indexed.AddAt i x.now)) ≡ true }
+    ensures came { Came result store.old store.new (answered_known store.old.world (view_in store.old n) (calls.Indexed on_indexed.AddAt i x.now)) }
+    ensures memory { result ≡ Err NoMemory → adds_rows store.old.world (answered_known store.old.world (view_in store.old n) (calls.Indexed on_indexed.AddAt i x.now)) ≡ true }
 {
     let Some(at) = i else {
         return Err(Refusal::IndexOutOfBounds);
@@ -90,8 +95,8 @@ pub(crate) fn set_at<L: Ledger>(
     requires list { is_list (shape_at store.old.world (view_in store.old n)) ≡ true }
     requires adds { (flags_at store.old.world (view_in store.old n)).add ≡ true }
     requires change { ChangesUpTo (2 ^ 63 - 1) store.old.world }
-    ensures came { Came result store.old store.new (answered store.old.world (view_in store.old n) (calls.Indexed on_indexed.SetAt i x.now)) }
-    ensures memory { result ≡ Err NoMemory → adds_rows store.old.world (answered store.old.world (view_in store.old n) (calls.Indexed on_indexed.SetAt i x.now)) ≡ true }
+    ensures came { Came result store.old store.new (answered_known store.old.world (view_in store.old n) (calls.Indexed on_indexed.SetAt i x.now)) }
+    ensures memory { result ≡ Err NoMemory → adds_rows store.old.world (answered_known store.old.world (view_in store.old n) (calls.Indexed on_indexed.SetAt i x.now)) ≡ true }
 {
     let Some(at) = i else {
         return Err(Refusal::IndexOutOfBounds);
@@ -120,13 +125,14 @@ pub(crate) fn put<L: Ledger>(
     steps: &mut Steps<L>,
 ) -> Result<Answer, Refusal>
     requires node { n < length store.old.nodes }
-    requires map { spec.is_map (shape_at store.old.world (view_in store.old n)) ≡ true }
+    requires map { is_map (shape_at store.old.world (view_in store.old n)) ≡ true }
     requires adds { (flags_at store.old.world (view_in store.old n)).add ≡ true }
     requires change { ChangesUpTo (2 ^ 63 - 1) store.old.world }
-    ensures came { Came result store.old store.new (answered store.old.world (view_in store.old n) (calls.Pair on_pair.Put k.now w.now)) }
-    ensures memory { result ≡ Err NoMemory → adds_rows store.old.world (answered store.old.world (view_in store.old n) (calls.Pair on_pair.Put k.now w.now)) ≡ true }
+    ensures came { Came result store.old store.new (answered_known store.old.world (view_in store.old n) (calls.Pair on_pair.Put k.now w.now)) }
+    ensures memory { result ≡ Err NoMemory → adds_rows store.old.world (answered_known store.old.world (view_in store.old n) (calls.Pair on_pair.Put k.now w.now)) ≡ true }
     ensures steps { steps.new ≤ steps.old + 4 }
 {
+    let _base = store.base_of(n);
     let before = map_get(store, n, k, steps);
     add_one(
         store,

@@ -1,24 +1,23 @@
 //! The calls that remove one item of a view that allows it.
 ghost use Rattle.std.specs.Prelude.{◌≡◌, ◌<◌, ◌^◌, ◌-◌, Ok, length, true, ◌≢◌, Err, ◌≤◌, ◌+◌};
 ghost use Rattle.base_store.specs.Stored.{view_in};
-ghost use Rattle.view_steps.specs.Answering.{answered, first_hit};
-ghost use Rattle.view_steps.specs.Answers as spec;
-ghost use Rattle.view_steps.specs.Indexes.{is_list};
-ghost use Rattle.view_steps.specs.Items.{same_item};
-ghost use Rattle.view_steps.specs.Limits.{ChangesUpTo};
-ghost use Rattle.view_steps.specs.Shapes.{is_keyed};
-ghost use Rattle.view_steps.specs.Views.{candidates, flags_at, shape_at, shown};
-ghost use Rattle.view_steps.specs.declared.answers.Answer.TheVariants as answers;
-ghost use Rattle.view_steps.specs.declared.calls.Call.TheVariants as calls;
-ghost use Rattle.view_steps.specs.declared.calls.OnIndex.TheVariants as on_index;
-ghost use Rattle.view_steps.specs.declared.refusals.Refusal.TheVariants.{NoMemory};
-ghost use Rattle.write_chain.specs.Calls.{Came, removed};
+ghost use Rattle.machine.specs.CallEdits.{first_hit};
+ghost use Rattle.machine.specs.Shown as spec;
+ghost use Rattle.vocabulary.specs.Items.{same_item};
+ghost use Rattle.machine.specs.RowCounts.{ChangesUpTo};
+ghost use Rattle.vocabulary.specs.Shapes.{is_keyed, is_list};
+ghost use Rattle.machine.specs.Views.{candidates, flags_at, shape_at, shown};
+ghost use Rattle.vocabulary.specs.declared.answers.Answer.TheVariants as answers;
+ghost use Rattle.vocabulary.specs.declared.calls.Call.TheVariants as calls;
+ghost use Rattle.vocabulary.specs.declared.calls.OnIndex.TheVariants as on_index;
+ghost use Rattle.vocabulary.specs.declared.refusals.Refusal.TheVariants.{NoMemory};
+ghost use Rattle.write_chain.specs.Calls.{Came, answered_known, removed};
 
 use base_store::{AnyRef, Store};
 use elem::{Elem, Steps};
 use read_chain::{item_at, place_and_value, place_of, place_of_item};
 use std::sync::ledger::Ledger;
-use view_steps::{Answer, Item, Refusal, key_of};
+use vocabulary::{Answer, Item, Refusal, key_of};
 
 /// Removes the first item that is the same, and tells whether one was shown.
 pub(crate) fn remove_item<L: Ledger>(
@@ -78,7 +77,7 @@ pub(crate) fn remove_at<L: Ledger>(
     requires list { is_list (shape_at store.old.world (view_in store.old n)) ≡ true }
     requires removes { (flags_at store.old.world (view_in store.old n)).remove ≡ true }
     requires change { ChangesUpTo (2 ^ 63 - 1) store.old.world }
-    ensures came { Came result store.old store.new (answered store.old.world (view_in store.old n) (calls.Index on_index.RemoveAt i)) }
+    ensures came { Came result store.old store.new (answered_known store.old.world (view_in store.old n) (calls.Index on_index.RemoveAt i)) }
     ensures memory { result ≢ Err NoMemory }
 {
     let Some(at) = i else {

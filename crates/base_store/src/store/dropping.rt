@@ -4,30 +4,36 @@ ghost use Rattle.std.specs.List.{list_any};
 ghost use Rattle.base_store.specs.BaseLanes as spec;
 ghost use Rattle.base_store.specs.Hits.{StandBelow};
 ghost use Rattle.base_store.specs.Nodes.{view_at};
-ghost use Rattle.base_store.specs.Reaches.{Reaches};
+ghost use Rattle.base_rows.specs.Reaches.{Reaches};
 ghost use Rattle.base_store.specs.Stored.{view_in, with_world};
 ghost use Rattle.elem.specs.Keyed.{value_at};
-ghost use Rattle.view_steps.specs.declared.items.Item.{Item as AnItem};
+ghost use Rattle.vocabulary.specs.declared.items.Item.{Item as AnItem};
 ghost use Rattle.view_steps.specs.declared.lanes.Lane.TheVariants as lanes;
-ghost use Rattle.view_steps.specs.Answering.{all_hits};
-ghost use Rattle.view_steps.specs.Edits.{edited, removing, world_after};
-ghost use Rattle.view_steps.specs.Items.{key_of};
-ghost use Rattle.view_steps.specs.Limits.{rows_in, most_rows};
+ghost use Rattle.machine.specs.CallEdits.{all_hits};
+ghost use Rattle.machine.specs.Edits.{edited, removing};
+ghost use Rattle.view_steps.specs.KnownViews.{edited_at, is_known_view, number_under};
+ghost use Rattle.vocabulary.specs.Items.{key_of};
+ghost use Rattle.vocabulary.specs.Known.{is_known_kind};
+ghost use Rattle.machine.specs.RowCounts.{rows_in};
+ghost use Rattle.vocabulary.specs.Limits.{most_rows};
 ghost use Rattle.view_steps.specs.Places.{HasKeys};
-ghost use Rattle.view_steps.specs.RowForm.{form_of, is_row_hit, shows};
-ghost use Rattle.view_steps.specs.Shapes.{is_keyed};
-ghost use Rattle.view_steps.specs.Views.{base_at, base_under, candidates, shape_at, shown};
+ghost use Rattle.view_laws.specs.RowForm.{form_of, shows};
+ghost use Rattle.view_steps.specs.RowHits.{is_row_hit};
+ghost use Rattle.vocabulary.specs.Shapes.{is_keyed};
+ghost use Rattle.machine.specs.Bases.{base_at};
+ghost use Rattle.machine.specs.Views.{candidates, shape_at, shown};
 
 use super::nodes::Nodes;
 use super::shown::Shown;
 use super::writing::rows_at;
 use super::{Slot, Store};
-use crate::reach::Reach;
-use crate::{AnyRef, Node, RowTest};
+use crate::{AnyRef, Node};
+use base_rows::{Reach, RowTest};
 use elem::Steps;
 use linked_base::FreeLinkedMap;
 use std::sync::ledger::Ledger;
-use view_steps::{Family, Lane, family_of, narrow};
+use view_steps::{Lane, narrow};
+use vocabulary::{Family, family_of};
 
 impl Store {
     /// Removes the rows that a view shows whose items pass a test, and tells whether there were any. It looks at the
@@ -39,9 +45,9 @@ impl Store {
         steps: &mut Steps<L>,
     ) -> bool
         requires node { n < length self.old.nodes }
-        requires change { (base_at self.old.world (base_under (view_in self.old n))).change < 2 ^ 63 }
+        requires change { (base_at self.old.world (number_under (view_in self.old n))).change < 2 ^ 63 }
         ensures any { result ≡ list_any (T.passes test.now) (shown self.old.world (view_in self.old n)) }
-        ensures after { self.new ≡ with_world self.old (world_after self.old.world (base_under (view_in self.old n)) (removing (all_hits (T.passes test.now) (candidates self.old.world (view_in self.old n))))) }
+        ensures after { self.new ≡ with_world self.old (edited_at self.old.world (number_under (view_in self.old n)) (removing (all_hits (T.passes test.now) (candidates self.old.world (view_in self.old n))))) }
         ensures few { rows_in self.new.world ≤ most_rows }
     {
         let lane = self.base_lane(n, &Lane::All);
@@ -61,9 +67,9 @@ impl Store {
         requires node { n < length self.old.nodes }
         requires keyed { is_keyed (shape_at self.old.world (view_in self.old n)) ≡ true }
         requires keys { (item : AnItem) → T.passes test.now item ≡ true → is_some (value_at keys.now (key_of item)) ≡ true }
-        requires change { (base_at self.old.world (base_under (view_in self.old n))).change < 2 ^ 63 }
+        requires change { (base_at self.old.world (number_under (view_in self.old n))).change < 2 ^ 63 }
         ensures any { result ≡ list_any (T.passes test.now) (shown self.old.world (view_in self.old n)) }
-        ensures after { self.new ≡ with_world self.old (world_after self.old.world (base_under (view_in self.old n)) (removing (all_hits (T.passes test.now) (candidates self.old.world (view_in self.old n))))) }
+        ensures after { self.new ≡ with_world self.old (edited_at self.old.world (number_under (view_in self.old n)) (removing (all_hits (T.passes test.now) (candidates self.old.world (view_in self.old n))))) }
         ensures few { rows_in self.new.world ≤ most_rows }
     {
         let _base = self.base_of(n);
@@ -79,10 +85,10 @@ impl Store {
         steps: &mut Steps<L>,
     ) -> bool
         requires node { n < length self.old.nodes }
-        requires change { (base_at self.old.world (base_under (view_in self.old n))).change < 2 ^ 63 }
-        requires reach { Reaches (base_at self.old.world (base_under (view_in self.old n))).kind reach (is_row_hit (T.passes test.now) (form_of (view_in self.old n))) }
+        requires change { (base_at self.old.world (number_under (view_in self.old n))).change < 2 ^ 63 }
+        requires reach { Reaches (base_at self.old.world (number_under (view_in self.old n))).kind reach (is_row_hit (T.passes test.now) (form_of (view_in self.old n))) }
         ensures any { result ≡ list_any (T.passes test.now) (shown self.old.world (view_in self.old n)) }
-        ensures after { self.new ≡ with_world self.old (world_after self.old.world (base_under (view_in self.old n)) (removing (all_hits (T.passes test.now) (candidates self.old.world (view_in self.old n))))) }
+        ensures after { self.new ≡ with_world self.old (edited_at self.old.world (number_under (view_in self.old n)) (removing (all_hits (T.passes test.now) (candidates self.old.world (view_in self.old n))))) }
         ensures few { rows_in self.new.world ≤ most_rows }
     {
         let at = self.base_of(n).number();
@@ -105,7 +111,7 @@ impl Store {
     fn reach_of<'a, T: RowTest>(&self, n: AnyRef, test: &T, lane: &'a Lane) -> Reach<'a>
         requires node { n < length self.now.nodes }
         requires lane { lane.now ≡ spec.base_lane (view_in self.now n) lanes.All }
-        ensures { Reaches (base_at self.now.world (base_under (view_in self.now n))).kind result (is_row_hit (T.passes test.now) (form_of (view_in self.now n))) }
+        ensures { Reaches (base_at self.now.world (number_under (view_in self.now n))).kind result (is_row_hit (T.passes test.now) (form_of (view_in self.now n))) }
     {
         let _base = self.base_of(n);
         if test.takes_all() {
@@ -159,9 +165,11 @@ fn drop_in<T: RowTest, L: Ledger>(
     requires change { (base_at slots.old.items b).change < 2 ^ 63 }
     requires within { n < length nodes.now.made }
     requires below { StandBelow nodes.now.made }
-    requires under { b ≡ base_under (view_at nodes.now.made n) }
+    requires known { is_known_view (view_at nodes.now.made n) ≡ true }
+    requires under { b ≡ number_under (view_at nodes.now.made n) }
+    requires kind { is_known_kind (base_at slots.old.items b).kind ≡ true }
     requires reach { Reaches (base_at slots.old.items b).kind reach (is_row_hit (T.passes test.now) (form_of (view_at nodes.now.made n))) }
-    ensures after { slots.new.items ≡ world_after slots.old.items b (removing (all_hits (T.passes test.now) (candidates slots.old.items (view_at nodes.now.made n)))) }
+    ensures after { slots.new.items ≡ edited_at slots.old.items b (removing (all_hits (T.passes test.now) (candidates slots.old.items (view_at nodes.now.made n)))) }
     ensures keys { HasKeys (edited (base_at slots.old.items b) (removing (all_hits (T.passes test.now) (candidates slots.old.items (view_at nodes.now.made n))))) }
 {
     let shown = Shown { nodes, n, test };

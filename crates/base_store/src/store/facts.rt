@@ -1,16 +1,18 @@
 //! What is constant of a view, as long as the kind of its base and its frozen mark are.
-ghost use Rattle.std.specs.Prelude.{◌≡◌, ◌<◌, ◌^◌};
+ghost use Rattle.std.specs.Prelude.{◌≡◌, ◌<◌, ◌^◌, true};
 ghost use Rattle.base_store.specs.Facts.{facts_at};
-ghost use Rattle.view_steps.specs.Steps as table;
-ghost use Rattle.view_steps.specs.Views.{World, View, base, base_at, over, shape_after};
+ghost use Rattle.vocabulary.specs.StepShapes as table;
+ghost use Rattle.view_steps.specs.KnownViews.{is_known};
+ghost use Rattle.machine.specs.Bases.{World, base_at};
+ghost use Rattle.machine.specs.Views.{View, base, over, shape_after};
+ghost use Rattle.machine.specs.Leaves.{stored};
 
 use elem::{Cut, Window};
-use view_steps::{
-    Flags, Kind, Shape, Step, apply, flags_after, flipped, shape_of_kind, window_over,
-};
+use view_steps::flipped;
+use vocabulary::{Flags, Kind, Shape, Step, apply, flags_after, shape_of_kind, window_over};
 
 /// What is constant of a view. It is told once, when the view is made.
-#[derive(Clone, Copy, Debug)]
+#[derive(Clone, Copy)]
 pub struct Facts {
     /// The base under it.
     pub base: usize,
@@ -28,7 +30,7 @@ pub struct Facts {
 impl Facts {
     /// Those of a base.
     pub(super) fn of_base(b: usize, kind: Kind, frozen: bool) -> Facts
-        ensures { (world : World) → (base_at world b).kind ≡ kind → (base_at world b).frozen ≡ frozen → result ≡ facts_at world (base b) }
+        ensures { (world : World) → (base_at world b).kind ≡ kind → (base_at world b).frozen ≡ frozen → result ≡ facts_at world (base (stored b)) }
     {
         Facts {
             base: b,
@@ -49,7 +51,8 @@ impl Facts {
 
     /// Those of a step over a view that has these.
     pub(super) fn over(&self, step: &Step) -> Facts
-        requires { self.now.path < 2 ^ 63 }
+        requires path { self.now.path < 2 ^ 63 }
+        requires known { is_known step.now ≡ true }
         ensures { (world : World) (v : View) → self.now ≡ facts_at world v → result ≡ facts_at world (over step.now v) }
     {
         Facts {

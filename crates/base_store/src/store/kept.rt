@@ -1,22 +1,23 @@
 //! Steps as nodes keep them: small, with the parts of a predicate or a function in a table.
-ghost use Rattle.std.specs.Prelude.{◌≡◌, ◌+◌, ◌++◌, ◌<◌, ◌≤◌, ◌^◌, length};
+ghost use Rattle.std.specs.Prelude.{◌≡◌, ◌+◌, ◌++◌, ◌<◌, ◌≤◌, ◌^◌, length, true};
+ghost use Rattle.view_steps.specs.KnownViews.{is_known};
 ghost use Rattle.base_store.specs.KeptSteps.{StandsIn, parts_of, run_in, step_in};
 
 use super::facts::Facts;
 use arrayvec::ArrayVec;
 use elem::Window;
 use fn_lang::{FuncRef, PairPredRef, Part, PredRef};
-use view_steps::{ChangeStep, FilterStep, Kind, Order, PlainStep, Step};
+use vocabulary::{ChangeStep, FilterStep, Kind, Order, PlainStep, Step};
 
 /// Parts that stand one behind another in a table: the number of the first, and how many they are.
-#[derive(Clone, Copy, Debug)]
+#[derive(Clone, Copy)]
 pub struct Run {
     pub start: usize,
     pub len: usize,
 }
 
 /// A step, as a node keeps it.
-#[derive(Clone, Copy, Debug)]
+#[derive(Clone, Copy)]
 pub enum KeptStep {
     Plain(PlainStep),
     Filter(FilterStep, Run),
@@ -26,14 +27,14 @@ pub enum KeptStep {
 }
 
 /// How a node was made: it is the base of a number, or a step over the node of a number.
-#[derive(Clone, Copy, Debug)]
+#[derive(Clone, Copy)]
 pub enum KeptMade {
     Base(usize),
     Over(KeptStep, usize),
 }
 
 /// A node: how it was made, and its facts.
-#[derive(Clone, Copy, Debug)]
+#[derive(Clone, Copy)]
 pub struct Kept {
     pub made: KeptMade,
     pub facts: Facts,
@@ -81,10 +82,12 @@ pub(super) fn lent_step<'a>(step: &KeptStep, parts: &'a [Part], from: usize) -> 
     }
 }
 
-/// The step as a node keeps it, whose parts are added to a table. The first part of the table has the number `from`.
+/// The known step as a node keeps it, whose parts are added to a table. The first part of the table has the number
+/// `from`.
 pub(super) fn kept_step(step: &Step, parts: &mut ArrayVec<Part, 2048>, from: usize) -> KeptStep
     requires room { length parts.old.items + 64 ≤ 2048 }
     requires low { from < 2 ^ 63 }
+    requires known { is_known step.now ≡ true }
     ensures parts { parts.new.items ≡ parts.old.items ++ parts_of step.now }
     ensures few { length (parts_of step.now) ≤ 64 }
     ensures stands { StandsIn from parts.new.items result }
@@ -96,6 +99,7 @@ pub(super) fn kept_step(step: &Step, parts: &mut ArrayVec<Part, 2048>, from: usi
         Step::FilterPairs(q) => KeptStep::FilterPairs(add_parts(parts, from, q.parts())),
         Step::Change(word, f) => KeptStep::Change(*word, add_parts(parts, from, f.parts())),
         Step::Within(order, window) => KeptStep::Within(*order, *window),
+        _ => unreachable!(),
     }
 }
 

@@ -1,5 +1,6 @@
 //! The nodes of a store: how each was made, and what is constant of its view.
-ghost use Rattle.std.specs.Prelude.{◌≡◌, ◌+◌, ◌<◌, [], Some, length, map, slice_get, OnOk, OnErr};
+ghost use Rattle.std.specs.Prelude.{◌≡◌, ◌+◌, ◌<◌, [], Some, length, map, slice_get, true, OnOk, OnErr};
+ghost use Rattle.view_steps.specs.KnownViews.{is_known};
 ghost use Rattle.base_store.specs.KeptSteps.{AllStand, made_in};
 ghost use Rattle.base_store.specs.NodeLists.{all_kept, front, with_lasting, with_temporary};
 ghost use Rattle.base_store.specs.declared.store.Made.TheVariants.{Base as base_node, Over as step_node};
@@ -12,7 +13,7 @@ use elem::NoMemory;
 use fn_lang::Part;
 use std::alloc::Global;
 use std::marker::Model;
-use view_steps::Step;
+use vocabulary::Step;
 
 /// Nodes by their numbers: those that last, and behind them the temporary ones. The parts of their predicates and
 /// functions stand in two tables in the same way.
@@ -108,6 +109,7 @@ impl Nodes {
     /// Adds a temporary node: a step over the node of a number. It takes no memory.
     pub(super) fn push_step(&mut self, step: &Step, parent: usize, facts: Facts)
         requires room { length self.old.made < self.old.lasting + 32 }
+        requires known { is_known step.now ≡ true }
         ensures { self.new ≡ with_temporary self.old (step_node step.now parent) facts }
     {
         let from = self.parts.as_slice().len();

@@ -1,17 +1,20 @@
 //! Reading the bases of a store by their places.
 ghost use Rattle.std.specs.Prelude.{◌≡◌, ◌<◌, ◌≤◌, ◌+◌, Some, length, true};
-ghost use Rattle.view_steps.specs.Kinds.{shape_of_kind};
+ghost use Rattle.vocabulary.specs.Kinds.{shape_of_kind};
 ghost use Rattle.view_steps.specs.Lanes.{Follows, IsFrom, Serves, line};
 ghost use Rattle.view_steps.specs.Places as spec;
-ghost use Rattle.view_steps.specs.Shapes.{is_keyed};
-ghost use Rattle.view_steps.specs.Views.{base, base_at};
+ghost use Rattle.vocabulary.specs.Shapes.{is_keyed};
+ghost use Rattle.machine.specs.Views.{base};
+ghost use Rattle.machine.specs.Leaves.{stored};
+ghost use Rattle.machine.specs.Bases.{base_at};
 ghost use Rattle.view_steps.specs.declared.places.Place.TheVariants as place;
 
 use super::Store;
 use crate::BaseId;
 use elem::{Elem, Steps};
 use std::sync::ledger::Ledger;
-use view_steps::{Item, Lane, Place};
+use view_steps::{Lane, Place};
+use vocabulary::Item;
 
 impl Store {
     /// The place that follows another in a lane of a base, or the first one.
@@ -25,8 +28,8 @@ impl Store {
     ) -> Option<Place>
         requires base { b < length self.now.world }
         requires serves { Serves (base_at self.now.world b).kind lane.now }
-        requires from { IsFrom (line self.now.world (base b) lane.now back) from }
-        ensures next { Follows (line self.now.world (base b) lane.now back) from result }
+        requires from { IsFrom (line self.now.world (base (stored b)) lane.now back) from }
+        ensures next { Follows (line self.now.world (base (stored b)) lane.now back) from result }
         ensures step { steps.new ≤ steps.old + 1 }
     {
         self.slots[b.number()]
@@ -37,7 +40,7 @@ impl Store {
     /// The row at a place of a base.
     pub fn row_at<L: Ledger>(&self, b: BaseId, at: &Place, steps: &mut Steps<L>) -> Option<Item>
         requires base { b < length self.now.world }
-        requires place { IsFrom (spec.places self.now.world (base b)) (Some at.now) }
+        requires place { IsFrom (spec.places self.now.world (base (stored b))) (Some at.now) }
         ensures row { result ≡ spec.row_at (base_at self.now.world b).rows at.now }
         ensures step { steps.new ≤ steps.old + 1 }
     {

@@ -1,13 +1,17 @@
 //! The rows of a base that a view shows, told from each row alone.
-ghost use Rattle.std.specs.Prelude.{◌≡◌, ◌<◌, length};
+ghost use Rattle.std.specs.Prelude.{◌≡◌, ◌<◌, length, true};
 ghost use Rattle.base_store.specs.Hits.{StandBelow};
 ghost use Rattle.base_store.specs.Nodes.{view_at};
-ghost use Rattle.view_steps.specs.RowForm.{form_of, found_of_row, found_through, is_cut, is_row_hit};
+ghost use Rattle.view_laws.specs.RowForm.{form_of};
+ghost use Rattle.view_steps.specs.KnownViews.{is_known_view};
+ghost use Rattle.view_steps.specs.RowHits.{found_of_row, found_through, is_cut, is_row_hit};
 
 use super::Made;
 use super::nodes::Nodes;
-use crate::RowTest;
-use view_steps::{Family, Found, Item, Step, family_of, found_over, passes};
+use base_rows::RowTest;
+use view_laws::Found;
+use view_steps::found_over;
+use vocabulary::{Family, Item, Step, family_of, passes};
 
 /// The rows that a view shows whose items pass a test.
 #[derive(Drop)]
@@ -17,6 +21,7 @@ pub(super) struct Shown<'a, T> {
     pub(super) test: &'a T,
     ghost within: { n < length nodes.now.made },
     ghost below: { StandBelow nodes.now.made },
+    ghost known: { is_known_view (view_at nodes.now.made n) ≡ true },
 }
 
 impl<'a, T: RowTest> RowTest for Shown<'a, T> {
@@ -34,6 +39,7 @@ impl<'a, T: RowTest> RowTest for Shown<'a, T> {
 fn found_in(nodes: &Nodes, n: usize, row: &Item) -> Option<Found>
     requires within { n < length nodes.now.made }
     requires below { StandBelow nodes.now.made }
+    requires known { is_known_view (view_at nodes.now.made n) ≡ true }
     ensures { result ≡ found_of_row (form_of (view_at nodes.now.made n)) row.now }
 {
     match nodes.made(n) {
@@ -64,6 +70,6 @@ fn left_out(step: &Step, item: &Item) -> bool
 {
     match family_of(step) {
         Family::Cut => !passes(step, item),
-        Family::Same | Family::Changed | Family::Turned | Family::Hidden => false,
+        _ => false,
     }
 }

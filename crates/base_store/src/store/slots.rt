@@ -1,20 +1,20 @@
 //! What changes one base of a store: its rows, and its change number with them.
 ghost use Rattle.std.specs.Prelude.{◌≡◌, ◌<◌, ◌≤◌, ◌+◌, ◌^◌, ◌⊎◌, ◌∷◌, ℕ, [], List, Some, filter, if◌then◌else◌, length, nat_lt, not, true, IfErr, OnErr, OnOk};
-ghost use Rattle.base_store.specs.Adding.{is_one_more};
-ghost use Rattle.base_store.specs.BaseRows.{AreRowsOf, IsFree, IsRowOf, IsSpotIn};
-ghost use Rattle.base_store.specs.Reaches.{Reaches};
-ghost use Rattle.view_steps.specs.Edits.{adding, edited, removing, with_rows};
+ghost use Rattle.base_rows.specs.Adding.{is_one_more};
+ghost use Rattle.base_rows.specs.BaseRows.{AreRowsOf, IsFree, IsRowOf, IsSpotIn};
+ghost use Rattle.base_rows.specs.Reaches.{Reaches};
+ghost use Rattle.machine.specs.Edits.{adding, edited, removing, with_rows};
 ghost use Rattle.view_steps.specs.Lanes.{IsFrom};
 ghost use Rattle.view_steps.specs.Places.{HasKeys, IsRowAt, places_of};
-ghost use Rattle.view_steps.specs.declared.refusals.Refusal.TheVariants as refusals;
+ghost use Rattle.vocabulary.specs.declared.refusals.Refusal.TheVariants as refusals;
 
 use super::Slot;
-use crate::RowTest;
-use crate::reach::Reach;
+use base_rows::{Reach, RowTest};
 use elem::{NoMemory, Steps};
 use std::alloc::Global;
 use std::sync::ledger::Ledger;
-use view_steps::{Item, Place, Refusal, Spot};
+use view_steps::Place;
+use vocabulary::{Item, Refusal, Spot};
 
 impl Slot {
     /// Puts a row in its spot.
@@ -95,7 +95,7 @@ impl Slot {
     )
         requires change { self.old.change < 2 ^ 63 }
         requires reach { Reaches self.old.kind reach (T.passes test.now) }
-        ensures after { self.new ≡ with_rows self.old (filter (λ row. not (T.passes test.now row)) self.old.rows) (nat_lt (length (filter (λ row. not (T.passes test.now row)) self.old.rows)) (length self.old.rows)) }
+        ensures after { self.new ≡ with_rows self.old (filter (λ row. not (T.passes test.now row)) self.old.rows) self.old.keys (nat_lt (length (filter (λ row. not (T.passes test.now row)) self.old.rows)) (length self.old.rows)) }
         ensures keys { HasKeys self.new }
     {
         let before = self.rows.len();

@@ -1,28 +1,34 @@
 //! Changing the bases of a store.
 ghost use Rattle.std.specs.Prelude.{◌≡◌, ◌<◌, ◌≤◌, ◌+◌, ◌^◌, ◌⊎◌, ◌&&◌, ◌++◌, ◌∷◌, ℕ, [], List, Some, length, nat_eq, true, Err, IfErr, OnErr, OnOk};
-ghost use Rattle.base_store.specs.Adding.{is_one_more};
-ghost use Rattle.base_store.specs.BaseRows.{AreRowsOf, IsFree, IsRowOf, IsSpotIn, kind_of, rows_of};
+ghost use Rattle.base_rows.specs.Adding.{is_one_more};
+ghost use Rattle.base_rows.specs.BaseRows.{AreRowsOf, IsFree, IsRowOf, IsSpotIn, kind_of, rows_of};
 ghost use Rattle.base_store.specs.Hits.{StandBelow};
 ghost use Rattle.base_store.specs.Nodes.{view_at};
 ghost use Rattle.base_store.specs.Stored.{view_in, with_world};
-ghost use Rattle.view_steps.specs.Answering.{all_hits};
-ghost use Rattle.view_steps.specs.Edits.{adding, edited, removing, world_after};
-ghost use Rattle.view_steps.specs.Kinds.{shape_of_kind};
+ghost use Rattle.machine.specs.CallEdits.{all_hits};
+ghost use Rattle.machine.specs.Edits.{adding, edited, removing};
+ghost use Rattle.view_steps.specs.KnownViews.{edited_at, number_under};
+ghost use Rattle.vocabulary.specs.Kinds.{shape_of_kind};
 ghost use Rattle.view_steps.specs.Lanes.{IsFrom};
-ghost use Rattle.view_steps.specs.Limits.{rows_in, most_rows, Grows};
+ghost use Rattle.machine.specs.RowCounts.{rows_in};
+ghost use Rattle.vocabulary.specs.Limits.{most_rows};
+ghost use Rattle.view_steps.specs.Limits.{Grows};
 ghost use Rattle.view_steps.specs.Places as spec;
 ghost use Rattle.view_steps.specs.Places.{HasKeys};
-ghost use Rattle.view_steps.specs.Shapes.{is_keyed};
-ghost use Rattle.view_steps.specs.Views.{base, base_at, base_under, candidates};
-ghost use Rattle.view_steps.specs.declared.refusals.Refusal.TheVariants as refusals;
+ghost use Rattle.vocabulary.specs.Shapes.{is_keyed};
+ghost use Rattle.machine.specs.Views.{base, candidates};
+ghost use Rattle.machine.specs.Leaves.{stored};
+ghost use Rattle.machine.specs.Bases.{base_at};
+ghost use Rattle.vocabulary.specs.declared.refusals.Refusal.TheVariants as refusals;
 
 use super::{MOST_ROWS, Slot, Store};
 use crate::BaseId;
-use crate::base_rows::BaseRows;
+use base_rows::BaseRows;
 use elem::{NoMemory, Steps};
 use std::alloc::Global;
 use std::sync::ledger::Ledger;
-use view_steps::{Item, Kind, Place, Refusal, Spot, key_of};
+use view_steps::Place;
+use vocabulary::{Item, Refusal, Spot, key_of};
 
 impl Store {
     /// Puts a row in its spot of a base. It takes memory only where a row is added.
@@ -41,11 +47,11 @@ impl Store {
         requires change { (base_at self.old.world b).change < 2 ^ 63 }
         requires fits { IsRowOf (base_at self.old.world b).kind row.now }
         requires spot { IsSpotIn (base_at self.old.world b).kind (length (base_at self.old.world b).rows) spot }
-        ensures ok { OnOk result (self.new ≡ with_world self.old (world_after self.old.world b (adding spot (row.now ∷ [])))) }
+        ensures ok { OnOk result (self.new ≡ with_world self.old (edited_at self.old.world b (adding spot (row.now ∷ [])))) }
         ensures few { rows_in self.new.world ≤ most_rows }
         ensures err { OnErr result (self.new ≡ self.old) }
-        ensures cause { IfErr result (λ why. ((why ≡ refusals.Limit) × (most_rows < rows_in (world_after self.old.world b (adding spot (row.now ∷ []))))) ⊎ (why ≡ refusals.NoMemory)) }
-        ensures memory { result ≡ Err refusals.NoMemory → Grows self.old.world (world_after self.old.world b (adding spot (row.now ∷ []))) }
+        ensures cause { IfErr result (λ why. ((why ≡ refusals.Limit) × (most_rows < rows_in (edited_at self.old.world b (adding spot (row.now ∷ []))))) ⊎ (why ≡ refusals.NoMemory)) }
+        ensures memory { result ≡ Err refusals.NoMemory → Grows self.old.world (edited_at self.old.world b (adding spot (row.now ∷ []))) }
         ensures steps { steps.new ≤ steps.old + 3 }
     {
         let at = b.number();
@@ -78,10 +84,10 @@ impl Store {
         requires fits { AreRowsOf (base_at self.old.world b).kind rows.now }
         requires spot { IsSpotIn (base_at self.old.world b).kind (length (base_at self.old.world b).rows) spot }
         requires free { IsFree spot }
-        ensures ok { OnOk result (self.new ≡ with_world self.old (world_after self.old.world b (adding spot rows.now))) }
+        ensures ok { OnOk result (self.new ≡ with_world self.old (edited_at self.old.world b (adding spot rows.now))) }
         ensures few { rows_in self.new.world ≤ most_rows }
         ensures err { OnErr result (self.new ≡ self.old) }
-        ensures cause { IfErr result (λ why. ((why ≡ refusals.Limit) × (most_rows < rows_in (world_after self.old.world b (adding spot rows.now)))) ⊎ (why ≡ refusals.NoMemory)) }
+        ensures cause { IfErr result (λ why. ((why ≡ refusals.Limit) × (most_rows < rows_in (edited_at self.old.world b (adding spot rows.now)))) ⊎ (why ≡ refusals.NoMemory)) }
     {
         let at = b.number();
         let before = rows_at(self.slots.as_slice(), at);
@@ -100,8 +106,8 @@ impl Store {
     pub fn remove_row<L: Ledger>(&mut self, b: BaseId, at: &Place, steps: &mut Steps<L>)
         requires base { b < length self.old.world }
         requires change { (base_at self.old.world b).change < 2 ^ 63 }
-        requires place { IsFrom (spec.places self.old.world (base b)) (Some at.now) }
-        ensures after { (numbers : List ℕ) → spec.IsRowAt (base_at self.old.world b).rows at.now numbers → self.new ≡ with_world self.old (world_after self.old.world b (removing numbers)) }
+        requires place { IsFrom (spec.places self.old.world (base (stored b))) (Some at.now) }
+        ensures after { (numbers : List ℕ) → spec.IsRowAt (base_at self.old.world b).rows at.now numbers → self.new ≡ with_world self.old (edited_at self.old.world b (removing numbers)) }
         ensures few { rows_in self.new.world ≤ most_rows }
         ensures steps { steps.new ≤ steps.old + 1 }
     {
@@ -149,21 +155,21 @@ fn adds<L: Ledger>(rows: &BaseRows, spot: Spot, row: &Item, steps: &mut Steps<L>
 {
     match spot {
         Spot::Own => {
-            if !goes_by_key(rows.kind()) {
+            if !goes_by_key(rows) {
                 return true;
             }
             rows.row_of_key(&key_of(row), steps).is_none()
         }
-        Spot::Before(_) => true,
         Spot::Instead(_) => false,
+        _ => true,
     }
 }
 
-/// Whether the rows of a kind go by key.
-fn goes_by_key(kind: Kind) -> bool
-    ensures { result ≡ is_keyed (shape_of_kind kind) }
+/// Whether rows go by key.
+fn goes_by_key(rows: &BaseRows) -> bool
+    ensures { result ≡ is_keyed (shape_of_kind (kind_of rows.now)) }
 {
-    !matches!(kind, Kind::ArrayList)
+    !matches!(rows, BaseRows::ArrayList(_))
 }
 
 /// Puts a row in its spot of a base.
@@ -178,7 +184,7 @@ fn place_in<L: Ledger>(
     requires change { (base_at slots.old.items b).change < 2 ^ 63 }
     requires fits { IsRowOf (base_at slots.old.items b).kind row.now }
     requires spot { IsSpotIn (base_at slots.old.items b).kind (length (base_at slots.old.items b).rows) spot }
-    ensures ok { OnOk result (slots.new.items ≡ world_after slots.old.items b (adding spot (row.now ∷ []))) }
+    ensures ok { OnOk result (slots.new.items ≡ edited_at slots.old.items b (adding spot (row.now ∷ []))) }
     ensures keys { OnOk result (HasKeys (edited (base_at slots.old.items b) (adding spot (row.now ∷ [])))) }
     ensures err { OnErr result (slots.new.items ≡ slots.old.items) }
     ensures memory { OnErr result (is_one_more (base_at slots.old.items b).kind spot (base_at slots.old.items b).rows row.now ≡ true) }
@@ -203,7 +209,7 @@ fn place_all_in<L: Ledger>(
     requires fits { AreRowsOf (base_at slots.old.items b).kind rows.now }
     requires spot { IsSpotIn (base_at slots.old.items b).kind (length (base_at slots.old.items b).rows) spot }
     requires free { IsFree spot }
-    ensures ok { OnOk result (slots.new.items ≡ world_after slots.old.items b (adding spot rows.now)) }
+    ensures ok { OnOk result (slots.new.items ≡ edited_at slots.old.items b (adding spot rows.now)) }
     ensures keys { OnOk result (HasKeys (edited (base_at slots.old.items b) (adding spot rows.now))) }
     ensures few { OnOk result (length (edited (base_at slots.old.items b) (adding spot rows.now)).rows ≤ length (base_at slots.old.items b).rows + room) }
     ensures err { OnErr result (slots.new.items ≡ slots.old.items) }
@@ -217,8 +223,8 @@ fn place_all_in<L: Ledger>(
 fn remove_in<L: Ledger>(slots: &mut Vec<Slot>, b: usize, at: &Place, steps: &mut Steps<L>)
     requires base { b < length slots.old.items }
     requires change { (base_at slots.old.items b).change < 2 ^ 63 }
-    requires place { IsFrom (spec.places slots.old.items (base b)) (Some at.now) }
-    ensures after { (numbers : List ℕ) → spec.IsRowAt (base_at slots.old.items b).rows at.now numbers → slots.new.items ≡ world_after slots.old.items b (removing numbers) }
+    requires place { IsFrom (spec.places slots.old.items (base (stored b))) (Some at.now) }
+    ensures after { (numbers : List ℕ) → spec.IsRowAt (base_at slots.old.items b).rows at.now numbers → slots.new.items ≡ edited_at slots.old.items b (removing numbers) }
     ensures keys { (numbers : List ℕ) → spec.IsRowAt (base_at slots.old.items b).rows at.now numbers → HasKeys (edited (base_at slots.old.items b) (removing numbers)) }
     ensures steps { steps.new ≤ steps.old + 1 }
 {

@@ -1,20 +1,20 @@
-use Rattle.std.proofs.Common.{ℕ, sym, ◌∙◌, ap, subst, Bool}
+use Rattle.std.proofs.Common.{ℕ, sym, ◌∙◌, ap, Bool}
 use Rattle.std.specs.Prelude.{drop, find}
 use Rattle.base_store.specs.Stored.{view_in}
-use Rattle.view_steps.specs.declared.items.Item.{Item}
-use Rattle.view_steps.specs.Answering.{is_hit}
-use Rattle.view_steps.specs.Places.{HasKeys}
-use Rattle.view_steps.specs.Views.{base_at, base_under, candidates}
+use Rattle.vocabulary.specs.declared.items.Item.{Item}
+use Rattle.machine.specs.CallEdits.{is_hit}
+use Rattle.machine.specs.Views.{candidates}
 use Rattle.read_chain.proofs.FindLemmas.{found_from, walk_hit}
 use Rattle.read_chain.proofs.finding.find_place.Goals as goal
+use Rattle.read_chain.proofs.UnderLemmas.{keys_under}
 use Rattle.view_steps.proofs.HitLemmas.{hit_later, no_hit}
 
 pub returns-then-is_hit-clause-some : goal.returns-then-is_hit-clause-some
 returns-then-is_hit-clause-some g c =
     let s = c.args.store.now in
     let v = view_in s c.args.n in
-    let keys : HasKeys (base_at s.world (base_under v)) = subst (λ (b : ℕ). HasKeys (base_at s.world b)) c.base_of-base.ensures.base c.base_of-base.ensures.keys in
-    rw (c.last.ensures) (walk_hit s c.args.n (g.T.RowTest.passes c.args.test.now) c.loop-found.walk c.pass.new.self c.in-Some.found _ keys c.loop-found.invariant.node c.loop-found.invariant.front
+    let keys = keys_under s.world v c.base_of-base.result c.base_of-base.ensures.known c.base_of-base.ensures.base c.base_of-base.ensures.keys in
+    rw (c.last.ensures) (walk_hit s c.args.n (g.T.RowTest.passes c.args.test.now) c.loop-found.walk c.pass.new.self c.in-Some.found _ c.base_of-base.ensures.known keys c.loop-found.invariant.node c.loop-found.invariant.front
     c.in-Some.ensures.node c.in-Some.ensures.back c.in-Some.ensures.passed c.in-Some.ensures.walk c.in-Some.ensures.found (sym c.is_hit.ensures ∙ c.if-is_hit.true) c.loop-found.invariant.rest).1
 
 pub loop-found-preserved : goal.loop-found-preserved

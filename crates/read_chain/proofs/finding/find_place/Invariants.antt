@@ -1,8 +1,8 @@
 use Rattle.std.proofs.Common.{◌≡◌, false, drop, find, length}
 use Rattle.base_store.specs.Stored.{view_in}
 use Rattle.read_chain.specs.Walks.{IsWalk}
-use Rattle.view_steps.specs.Answering.{is_hit}
-use Rattle.view_steps.specs.Views.{candidates}
+use Rattle.machine.specs.CallEdits.{is_hit}
+use Rattle.machine.specs.Views.{candidates}
 use Rattle.read_chain.proofs.finding.find_place.Given as goal
 
 abbrev pub invariant-loop-found : goal.invariant-loop-found

@@ -2,9 +2,9 @@ use Rattle.std.proofs.Common.{◌∙◌, ap, cond, map, Bool, Some, None}
 use Rattle.std.specs.Prelude.{filter}
 use Rattle.std.specs.Option.{option_to_list}
 use Rattle.base_store.specs.Stored.{view_in}
-use Rattle.view_steps.specs.Answers.{has_key}
-use Rattle.view_steps.specs.Places.{found_in}
-use Rattle.view_steps.specs.Views.{candidates}
+use Rattle.machine.specs.Shown.{has_key}
+use Rattle.view_laws.specs.Places.{found_in}
+use Rattle.machine.specs.Views.{candidates}
 use Rattle.read_chain.proofs.LookUpLemmas.{shown_of_one}
 use Rattle.read_chain.proofs.WalkLemmas.{shown_found}
 use Rattle.read_chain.proofs.look_ups.shown_at_key.Goals as goal

@@ -2,10 +2,13 @@ use Rattle.std.proofs.Common.{◌≡◌, ◌<◌, ℕ, sym, ◌∙◌, true, ref
 use Rattle.std.specs.Prelude.{nat_lt, None}
 use Rattle.std.proofs.lemmas.Bool.Decides.{nat_tests}
 use Rattle.base_store.specs.Stored.{view_in}
-use Rattle.view_steps.specs.declared.steps.Step.{Step}
-use Rattle.view_steps.specs.KeptSteps.{order_at, step_refusal, window_at, longest_path}
-use Rattle.view_steps.specs.Views.{World, View, path}
-use Rattle.view_steps.specs.Windows.{takes_argument}
+use Rattle.vocabulary.specs.declared.steps.Step.{Step}
+use Rattle.machine.specs.KeptSteps.{order_at, window_at}
+use Rattle.machine.specs.Making.{step_refusal}
+use Rattle.vocabulary.specs.Limits.{longest_path}
+use Rattle.machine.specs.Bases.{World}
+use Rattle.machine.specs.Views.{View, path}
+use Rattle.vocabulary.specs.Windows.{takes_argument}
 use Rattle.view_steps.proofs.MadeLemmas.{kept_made}
 use Rattle.read_chain.proofs.making.make_view.Goals as goal
 
@@ -22,4 +25,4 @@ new_view-requires-clause-kept c =
     let it = c.args.step in
     let fits : takes_argument (order_at s.world v) (window_at v) it ≡ true = rw (← c.order_of-order.ensures, ← c.window_of-window.ensures) (sym c.takes_argument.ensures ∙ c.if-not-takes_argument.false) in
     let short : path v < longest_path = omega arith in
-    rw (c.kept_on.ensures, c.order_of-order.ensures, c.window_of-window.ensures) (kept_made s.world v it c.base_of-base.ensures.made c.requires.given (not_refused s.world v it fits short)).0.kept
+    rw (c.kept_on.ensures, c.order_of-order.ensures, c.window_of-window.ensures) (kept_made s.world v it c.requires.known c.base_of-base.ensures.made c.requires.given (not_refused s.world v it fits short)).0.kept

@@ -3,8 +3,8 @@ use Rattle.std.specs.Prelude.{filter, is_some}
 use Rattle.std.specs.Option.{option_to_list}
 use Rattle.elem.specs.declared.elements.Elem.{Elem}
 use Rattle.read_chain.specs.Reads.{shown_in}
-use Rattle.view_steps.specs.Answers.{has_key}
-use Rattle.view_steps.specs.Items.{same_item}
+use Rattle.machine.specs.Shown.{has_key}
+use Rattle.vocabulary.specs.Items.{same_item}
 use Rattle.read_chain.proofs.reads.contains.Goals as goal
 use Rattle.view_steps.proofs.KeyLemmas.{any_found, shown_at}
 

@@ -2,7 +2,7 @@ use Rattle.std.proofs.Common.{◌≡◌, length}
 use Rattle.std.specs.List.{list_all}
 use Rattle.read_chain.specs.Reads.{shown_in}
 use Rattle.read_chain.specs.Walks.{IsWalk, to_come}
-use Rattle.view_steps.specs.Answers.{is_shown}
+use Rattle.machine.specs.Shown.{is_shown}
 use Rattle.read_chain.proofs.reads.contains_all.Given as goal
 
 abbrev pub invariant-loop-item : goal.invariant-loop-item

@@ -1,7 +1,7 @@
 use Rattle.std.proofs.Common.{sym, ◌∙◌, ap}
 use Rattle.std.specs.Prelude.{is_some}
 use Rattle.read_chain.specs.Reads.{shown_in}
-use Rattle.view_steps.specs.Answers.{has_value}
+use Rattle.machine.specs.Shown.{has_value}
 use Rattle.read_chain.proofs.reads.has_value.Goals as goal
 use Rattle.view_steps.proofs.KeyLemmas.{any_found}
 

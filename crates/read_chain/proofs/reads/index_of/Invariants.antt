@@ -2,7 +2,7 @@ use Rattle.std.proofs.Common.{◌≡◌, ◌+◌, length}
 use Rattle.std.specs.List.{position_or_len}
 use Rattle.read_chain.specs.Reads.{shown_in}
 use Rattle.read_chain.specs.Walks.{IsWalk, to_come}
-use Rattle.view_steps.specs.Items.{same_item}
+use Rattle.vocabulary.specs.Items.{same_item}
 use Rattle.read_chain.proofs.reads.index_of.Given as goal
 
 abbrev pub invariant-loop-shown : goal.invariant-loop-shown

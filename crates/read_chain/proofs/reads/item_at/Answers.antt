@@ -1,4 +1,4 @@
-use Rattle.std.proofs.Common.{◌≡◌, ℕ, ◌<◌, sym, ◌∙◌, ap, subst, arith, length, Some}
+use Rattle.std.proofs.Common.{◌≡◌, ℕ, ◌<◌, true, sym, ◌∙◌, ap, arith, length, Some}
 use Rattle.std.specs.Prelude.{option_map}
 use Rattle.std.proofs.lemmas.Option.{slice_get_past}
 use Rattle.base_store.specs.Stored.{view_in}
@@ -6,44 +6,47 @@ use Rattle.read_chain.specs.Reads.{shown_in}
 use Rattle.read_chain.specs.Walks.{item_there}
 use Rattle.view_steps.specs.declared.places.Place.TheVariants.{Index}
 use Rattle.view_steps.specs.Indexes as spec
-use Rattle.view_steps.specs.Places.{show, HasKeys}
-use Rattle.view_steps.specs.Views.{World, View, base_at, base_under}
+use Rattle.view_steps.specs.Places.{show}
+use Rattle.machine.specs.Bases.{World, base_at}
+use Rattle.machine.specs.Leaves.{leaf_at}
+use Rattle.machine.specs.Views.{View, base_under}
+use Rattle.view_steps.specs.KnownViews.{is_known_view, number_under}
 use Rattle.read_chain.proofs.ListViewLemmas.{item_at_place}
 use Rattle.read_chain.proofs.reads.item_at.Goals as goal
-use Rattle.view_steps.proofs.CountLemmas.{few_shown}
+use Rattle.read_chain.proofs.UnderLemmas.{few_items, keys_under, size_under}
 use Rattle.view_steps.proofs.ListViews.{list_indexed}
 
 -- the index of an item, by the size of the base under a view
-index_is : (world : World) (v : View) (b size i index : ℕ) → b ≡ base_under v → size ≡ length (base_at world b).rows → index ≡ spec.item_index v size i → index ≡ spec.item_index v (length (base_at world (base_under v)).rows) i
-index_is world v b size i index at count is = is ∙ ap (λ (m : ℕ). spec.item_index v m i) (count ∙ ap (λ (n : ℕ). length (base_at world n).rows) at)
+index_is : (world : World) (v : View) (b size i index : ℕ) → is_known_view v ≡ true → b ≡ number_under v → size ≡ length (base_at world b).rows → index ≡ spec.item_index v size i → index ≡ spec.item_index v (length (leaf_at world (base_under v)).rows) i
+index_is world v b size i index known at count is = is ∙ ap (λ (m : ℕ). spec.item_index v m i) (count ∙ sym (size_under world v b known at))
 
 pub returns-then-i-size : goal.returns-then-i-size
 returns-then-i-size g c =
     let s = c.args.store.now in
-    sym (slice_get_past (shown_in s c.args.n) c.args.i (omega (arith, few_shown s.world (view_in s c.args.n), ap (λ (b : ℕ). length (base_at s.world b).rows) c.base_of.ensures.base, c.len-size.ensures.len)))
+    sym (slice_get_past (shown_in s c.args.n) c.args.i (omega (arith, few_items s.world (view_in s c.args.n) c.base_of.result c.base_of.ensures.known c.base_of.ensures.base, c.len-size.ensures.len)))
 
 pub found_at-requires-clause-place : goal.found_at-requires-clause-place
 found_at-requires-clause-place g c =
     let s = c.args.store.now in
     let v = view_in s c.args.n in
-    let lt : c.args.i < length (base_at s.world (base_under v)).rows = omega (arith, ap (λ (b : ℕ). length (base_at s.world b).rows) c.base_of.ensures.base, c.len-size.ensures.len) in
-    let index = index_is s.world v c.base_of.result c.len-size.result c.args.i c.item_index.result c.base_of.ensures.base c.len-size.ensures.len c.item_index.ensures.index in
-    (c.args.i, (list_indexed s.world v c.base_of.ensures.made c.requires.list).index c.args.i lt ∙ ap (λ (k : ℕ). Some (Index k)) (sym index))
+    let lt : c.args.i < length (leaf_at s.world (base_under v)).rows = omega (arith, size_under s.world v c.base_of.result c.base_of.ensures.known c.base_of.ensures.base, c.len-size.ensures.len) in
+    let index = index_is s.world v c.base_of.result c.len-size.result c.args.i c.item_index.result c.base_of.ensures.known c.base_of.ensures.base c.len-size.ensures.len c.item_index.ensures.index in
+    (c.args.i, (list_indexed s.world v c.base_of.ensures.known c.base_of.ensures.made c.requires.list).index c.args.i lt ∙ ap (λ (k : ℕ). Some (Index k)) (sym index))
 
 pub returns-in-Some : goal.returns-in-Some
 returns-in-Some g c =
     let s = c.args.store.now in
     let v = view_in s c.args.n in
-    let keys : HasKeys (base_at s.world (base_under v)) = subst (λ (b : ℕ). HasKeys (base_at s.world b)) c.base_of.ensures.base c.base_of.ensures.keys in
-    let lt : c.args.i < length (base_at s.world (base_under v)).rows = omega (arith, ap (λ (b : ℕ). length (base_at s.world b).rows) c.base_of.ensures.base, c.len-size.ensures.len) in
-    let index = index_is s.world v c.base_of.result c.len-size.result c.args.i c.item_index.result c.base_of.ensures.base c.len-size.ensures.len c.item_index.ensures.index in
-    ap (option_map item_there) (c.in-Some.ensures.found ∙ ap (λ (k : ℕ). show s.world v (Index k)) index) ∙ sym (item_at_place s.world v c.args.i c.base_of.ensures.made keys c.requires.list lt)
+    let keys = keys_under s.world v c.base_of.result c.base_of.ensures.known c.base_of.ensures.base c.base_of.ensures.keys in
+    let lt : c.args.i < length (leaf_at s.world (base_under v)).rows = omega (arith, size_under s.world v c.base_of.result c.base_of.ensures.known c.base_of.ensures.base, c.len-size.ensures.len) in
+    let index = index_is s.world v c.base_of.result c.len-size.result c.args.i c.item_index.result c.base_of.ensures.known c.base_of.ensures.base c.len-size.ensures.len c.item_index.ensures.index in
+    ap (option_map item_there) (c.in-Some.ensures.found ∙ ap (λ (k : ℕ). show s.world v (Index k)) index) ∙ sym (item_at_place s.world v c.args.i c.base_of.ensures.known c.base_of.ensures.made keys c.requires.list lt)
 
 pub returns-in-None : goal.returns-in-None
 returns-in-None g c =
     let s = c.args.store.now in
     let v = view_in s c.args.n in
-    let keys : HasKeys (base_at s.world (base_under v)) = subst (λ (b : ℕ). HasKeys (base_at s.world b)) c.base_of.ensures.base c.base_of.ensures.keys in
-    let lt : c.args.i < length (base_at s.world (base_under v)).rows = omega (arith, ap (λ (b : ℕ). length (base_at s.world b).rows) c.base_of.ensures.base, c.len-size.ensures.len) in
-    let index = index_is s.world v c.base_of.result c.len-size.result c.args.i c.item_index.result c.base_of.ensures.base c.len-size.ensures.len c.item_index.ensures.index in
-    ap (option_map item_there) (c.in-None.ensures.found ∙ ap (λ (k : ℕ). show s.world v (Index k)) index) ∙ sym (item_at_place s.world v c.args.i c.base_of.ensures.made keys c.requires.list lt)
+    let keys = keys_under s.world v c.base_of.result c.base_of.ensures.known c.base_of.ensures.base c.base_of.ensures.keys in
+    let lt : c.args.i < length (leaf_at s.world (base_under v)).rows = omega (arith, size_under s.world v c.base_of.result c.base_of.ensures.known c.base_of.ensures.base, c.len-size.ensures.len) in
+    let index = index_is s.world v c.base_of.result c.len-size.result c.args.i c.item_index.result c.base_of.ensures.known c.base_of.ensures.base c.len-size.ensures.len c.item_index.ensures.index in
+    ap (option_map item_there) (c.in-None.ensures.found ∙ ap (λ (k : ℕ). show s.world v (Index k)) index) ∙ sym (item_at_place s.world v c.args.i c.base_of.ensures.known c.base_of.ensures.made keys c.requires.list lt)

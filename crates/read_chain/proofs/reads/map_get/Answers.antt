@@ -1,8 +1,8 @@
 use Rattle.std.proofs.Common.{sym, ◌∙◌, ap, Some, None}
 use Rattle.std.specs.Option.{option_map}
 use Rattle.read_chain.specs.Reads.{shown_in}
-use Rattle.view_steps.specs.Answers.{has_key}
-use Rattle.view_steps.specs.Items.{value_of}
+use Rattle.machine.specs.Shown.{has_key}
+use Rattle.vocabulary.specs.Items.{value_of}
 use Rattle.read_chain.proofs.reads.map_get.Goals as goal
 use Rattle.view_steps.proofs.KeyLemmas.{find_one}
 

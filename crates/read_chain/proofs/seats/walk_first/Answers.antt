@@ -5,13 +5,13 @@ use Rattle.view_steps.specs.declared.places.Place.{Place}
 use Rattle.view_steps.specs.Lanes.{Follows}
 use Rattle.view_steps.specs.Places.{places}
 use Rattle.view_steps.proofs.ListLemmas.{filter-all}
-use Rattle.view_steps.proofs.MadeLemmas.{lane_straight}
+use Rattle.read_chain.proofs.UnderLemmas.{goes_straight}
 use Rattle.read_chain.proofs.seats.walk_first.Goals as goal
 
 pub next_place-requires-clause-straight : goal.next_place-requires-clause-straight
 next_place-requires-clause-straight g c =
     let s = c.args.store.now in
-    lane_straight s.world (view_in s c.args.n) All c.base_of-base.ensures.made tt
+    goes_straight s.world (view_in s c.args.n) All c.base_of-base.result c.base_of-base.ensures.known c.base_of-base.ensures.base c.base_of-base.ensures.kind c.base_of-base.ensures.made tt
 
 pub returns-clause-first : goal.returns-clause-first
 returns-clause-first g c =

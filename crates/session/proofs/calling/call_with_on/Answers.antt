@@ -1,10 +1,15 @@
-use Rattle.std.proofs.Common.{refl}
 use Rattle.base_store.specs.Stored.{view_in}
-use Rattle.view_steps.specs.Answering.{answered_with}
-use Rattle.view_steps.specs.Memory.{wants_memory_with}
-use Rattle.session.specs.Called.{called_with}
-use Rattle.session.proofs.CallLemmas.{came_told}
+use Rattle.machine.specs.Answering.{answered_with}
+use Rattle.machine.specs.Calling.{ended}
+use Rattle.machine.specs.Meanings.{calls_with}
+use Rattle.machine.specs.Memory.{wants_memory_with}
+use Rattle.session.specs.Coming.{seen_as}
+use Rattle.session.proofs.CallLemmas.{came_told, replied_known}
+use Rattle.session.proofs.KnownLemmas.{other_answers}
 use Rattle.session.proofs.calling.call_with_on.Goals as goal
+
+pub tell-requires : goal.tell-requires
+tell-requires g c = let s = c.args.store.now in other_answers c.call_with-answer.result s c.call_with-answer.new.store s.world (view_in s c.args.n) c.args.word (view_in s c.args.other) c.call_with-answer.ensures.came
 
 pub returns : goal.returns
 returns g c =
@@ -12,5 +17,6 @@ returns g c =
     let view = view_in s c.args.n in
     let other = view_in s c.args.other in
     let word = c.args.word in
-    came_told c.call_with-answer.result s c.call_with-answer.new.store (λ state. called_with state view word other) (wants_memory_with s.world view word) (answered_with s.world view word other)
-    c.call_with-answer.ensures.came c.call_with-answer.ensures.changes (λ names. refl) c.call_with-answer.ensures.memory c.tell.ensures
+    let done = answered_with s.world view word other in
+    came_told c.call_with-answer.result s c.call_with-answer.new.store (λ state. ended state (calls_with word other) view) (wants_memory_with s.world view word) done
+    c.call_with-answer.ensures.came c.call_with-answer.ensures.changes (λ names. replied_known (seen_as s names) view (wants_memory_with s.world view word) done c.base_of-base.ensures.known) c.call_with-answer.ensures.memory c.tell.ensures

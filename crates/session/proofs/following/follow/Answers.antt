@@ -3,10 +3,12 @@ use Rattle.script_text.specs.Parts.{part_in}
 use Rattle.session.specs.declared.typing.Typed.{Typed}
 use Rattle.session.specs.declared.typing.Typed.TheVariants as typed
 use Rattle.session.specs.Environment.{named}
-use Rattle.session.specs.Parts.{parts_in, text_at}
-use Rattle.session.specs.Typing.{calls, calls_with, may_call, typed_word}
+use Rattle.session.specs.Following.{parts_in}
+use Rattle.machine.specs.Languages.{known}
+use Rattle.machine.specs.Meanings.{calls, calls_with, typed_word}
+use Rattle.machine.specs.Parts.{text_at}
 use Rattle.base_store.specs.Stored.{view_in}
-use Rattle.session.proofs.FollowLemmas.{at_end, at_fault, at_refused, at_step, end_call, end_with, names_in}
+use Rattle.session.proofs.FollowLemmas.{at_end, at_fault, at_refused, at_step, end_call, end_with, followed_start, knows_step, names_in}
 use Rattle.session.proofs.TextLemmas.{text_short}
 use Rattle.session.proofs.following.follow.Goals as goal
 
@@ -15,6 +17,21 @@ type_word-typed-requires-clause-names c = names_in c.args.names.now.entries c.ar
 
 pub take_step-requires-clause-short : goal.take_step-requires-clause-short
 take_step-requires-clause-short c = let le : length c.args.line.now ≤ 1024 = c.requires.short in omega (arith, le, text_short c.args.line.now c.part-item.result 0, ap (λ (xs : List ℕ). length xs) c.argument.ensures)
+
+pub take_step-requires-clause-known : goal.take_step-requires-clause-known
+take_step-requires-clause-known c =
+    knows_step c.args.names.now.entries c.args.purpose c.args.store.now c.loop-rest.store c.args.head c.loop-rest.node (parts_in c.args.line.now c.args.parts.now) c.args.line.now c.loop-rest.rest.now c.part-item.result c.shape.result c.type_word-typed.result
+    (record {
+      within = c.requires.names;
+      ok = c.requires.typed;
+      followed = c.loop-rest.invariant;
+      there = c.in-len1-up.len_at_least;
+      item = c.part-item.is;
+      shape = c.shape.ensures;
+      meant = c.type_word-typed.ensures.meaning ∙ ap (λ (last : Bool). typed_word known c.loop-rest.store.world (named c.loop-rest.store.nodes c.args.names.now.entries) c.args.purpose last c.shape.result (part_in c.args.line.now c.part-item.result)) c.is_empty.ensures;
+      typed = c.type_word-typed.ensures.typed;
+    })
+    c.in-Step.form c.in-Step.field-1 (c.in-Ok.is ∙ ap (λ (x : Typed). Ok x) c.in-Step.is)
 
 pub loop-rest-preserved : goal.loop-rest-preserved
 loop-rest-preserved c =
@@ -26,7 +43,7 @@ loop-rest-preserved c =
       there = c.in-len1-up.len_at_least;
       item = c.part-item.is;
       shape = c.shape.ensures;
-      meant = c.type_word-typed.ensures.meaning ∙ ap (λ (may : Bool). typed_word c.loop-rest.store.world (named c.loop-rest.store.nodes c.args.names.now.entries) may c.shape.result (part_in c.args.line.now c.part-item.result)) (c.may_call-may_call.ensures ∙ ap (may_call c.args.purpose) c.is_empty.ensures);
+      meant = c.type_word-typed.ensures.meaning ∙ ap (λ (last : Bool). typed_word known c.loop-rest.store.world (named c.loop-rest.store.nodes c.args.names.now.entries) c.args.purpose last c.shape.result (part_in c.args.line.now c.part-item.result)) c.is_empty.ensures;
       typed = c.type_word-typed.ensures.typed;
     })
     c.in-Step.form c.in-Step.field-1 (c.in-Ok.is ∙ ap (λ (x : Typed). Ok x) c.in-Step.is) c.take_step.new.store c.argument.result.now c.in-Ok-take_step.made c.argument.ensures c.in-Ok-take_step.ensures
@@ -41,7 +58,7 @@ returns-in-Err-clause-led c =
       there = c.in-len1-up.len_at_least;
       item = c.part-item.is;
       shape = c.shape.ensures;
-      meant = c.type_word-typed.ensures.meaning ∙ ap (λ (may : Bool). typed_word c.loop-rest.store.world (named c.loop-rest.store.nodes c.args.names.now.entries) may c.shape.result (part_in c.args.line.now c.part-item.result)) (c.may_call-may_call.ensures ∙ ap (may_call c.args.purpose) c.is_empty.ensures);
+      meant = c.type_word-typed.ensures.meaning ∙ ap (λ (last : Bool). typed_word known c.loop-rest.store.world (named c.loop-rest.store.nodes c.args.names.now.entries) c.args.purpose last c.shape.result (part_in c.args.line.now c.part-item.result)) c.is_empty.ensures;
       typed = c.type_word-typed.ensures.typed;
     })
     c.in-Step.form c.in-Step.field-1 (c.in-Ok.is ∙ ap (λ (x : Typed). Ok x) c.in-Step.is) c.take_step.new.store c.argument.result.now c.in-Err.refusal c.argument.ensures c.in-Err.ensures).led
@@ -60,10 +77,10 @@ returns-in-Call-clause-led c =
       there = c.in-len1-up.len_at_least;
       item = c.part-item.is;
       shape = c.shape.ensures;
-      meant = c.type_word-typed.ensures.meaning ∙ ap (λ (may : Bool). typed_word c.loop-rest.store.world (named c.loop-rest.store.nodes c.args.names.now.entries) may c.shape.result (part_in c.args.line.now c.part-item.result)) (c.may_call-may_call.ensures ∙ ap (may_call c.args.purpose) c.is_empty.ensures);
+      meant = c.type_word-typed.ensures.meaning ∙ ap (λ (last : Bool). typed_word known c.loop-rest.store.world (named c.loop-rest.store.nodes c.args.names.now.entries) c.args.purpose last c.shape.result (part_in c.args.line.now c.part-item.result)) c.is_empty.ensures;
       typed = c.type_word-typed.ensures.typed;
     })
-    (typed.Call c.in-Call.call) (calls c.in-Call.call) (c.in-Ok.is ∙ ap (λ (x : Typed). Ok x) c.in-Call.is) refl
+    (typed.Call c.in-Call.call) (calls (Ok c.in-Call.call)) (c.in-Ok.is ∙ ap (λ (x : Typed). Ok x) c.in-Call.is) refl
 
 pub returns-in-With-clause-end : goal.returns-in-With-clause-end
 returns-in-With-clause-end c =
@@ -79,7 +96,7 @@ returns-in-With-clause-led c =
       there = c.in-len1-up.len_at_least;
       item = c.part-item.is;
       shape = c.shape.ensures;
-      meant = c.type_word-typed.ensures.meaning ∙ ap (λ (may : Bool). typed_word c.loop-rest.store.world (named c.loop-rest.store.nodes c.args.names.now.entries) may c.shape.result (part_in c.args.line.now c.part-item.result)) (c.may_call-may_call.ensures ∙ ap (may_call c.args.purpose) c.is_empty.ensures);
+      meant = c.type_word-typed.ensures.meaning ∙ ap (λ (last : Bool). typed_word known c.loop-rest.store.world (named c.loop-rest.store.nodes c.args.names.now.entries) c.args.purpose last c.shape.result (part_in c.args.line.now c.part-item.result)) c.is_empty.ensures;
       typed = c.type_word-typed.ensures.typed;
     })
     (typed.With c.in-With.word c.in-With.other) (calls_with c.in-With.word (view_in c.loop-rest.store c.in-With.other)) (c.in-Ok.is ∙ ap (λ (x : Typed). Ok x) c.in-With.is) refl
@@ -94,7 +111,10 @@ returns-in_default-typed-clause-led c =
       there = c.in-len1-up.len_at_least;
       item = c.part-item.is;
       shape = c.shape.ensures;
-      meant = c.type_word-typed.ensures.meaning ∙ ap (λ (may : Bool). typed_word c.loop-rest.store.world (named c.loop-rest.store.nodes c.args.names.now.entries) may c.shape.result (part_in c.args.line.now c.part-item.result)) (c.may_call-may_call.ensures ∙ ap (may_call c.args.purpose) c.is_empty.ensures);
+      meant = c.type_word-typed.ensures.meaning ∙ ap (λ (last : Bool). typed_word known c.loop-rest.store.world (named c.loop-rest.store.nodes c.args.names.now.entries) c.args.purpose last c.shape.result (part_in c.args.line.now c.part-item.result)) c.is_empty.ensures;
       typed = c.type_word-typed.ensures.typed;
     })
     c.in_default-typed.field-0 c.in_default-typed.is)
+
+pub loop-rest-init : goal.loop-rest-init
+loop-rest-init c = followed_start c.args.names.now.entries c.args.purpose c.args.store.now c.args.head (parts_in c.args.line.now c.args.parts.now) c.requires.head c.requires.still

@@ -1,6 +1,5 @@
 use Rattle.std.proofs.Common.{length}
-use Rattle.session.specs.Following.{Followed}
-use Rattle.session.specs.Parts.{parts_in}
+use Rattle.session.specs.Following.{Followed, parts_in}
 use Rattle.session.proofs.following.follow.Given as goal
 
 abbrev pub invariant-loop-rest : goal.invariant-loop-rest

@@ -1,7 +1,7 @@
 use Rattle.std.proofs.Common.{sym, ◌∙◌, ap, append_assoc}
 use Rattle.std.specs.Prelude.{codes}
 use Rattle.elem.specs.Spelling.{spelling}
-use Rattle.view_steps.specs.Texts.{item_text}
+use Rattle.machine.specs.Texts.{item_text}
 use Rattle.session.proofs.ReplyLemmas.{goes_more, goes_text}
 use Rattle.session.proofs.printing.write_item.Goals as goal
 

@@ -1,8 +1,8 @@
 use Rattle.std.proofs.Common.{length, map}
 use Rattle.base_store.specs.Stored.{view_in}
 use Rattle.read_chain.specs.Walks.{to_come}
-use Rattle.view_steps.specs.Texts.{item_text, listed}
-use Rattle.view_steps.specs.Views.{shown}
+use Rattle.machine.specs.Texts.{item_text, listed}
+use Rattle.machine.specs.Views.{shown}
 use Rattle.session.proofs.PrintLemmas.{Printed}
 use Rattle.session.proofs.printing.write_items.Given as goal
 

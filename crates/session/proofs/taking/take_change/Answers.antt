@@ -1,7 +1,7 @@
 use Rattle.std.proofs.Common.{ap, sym, ◌∙◌}
 use Rattle.fn_lang.specs.PartTrees.{func_of, func_of-parts}
 use Rattle.fn_lang.specs.Trees.{FuncTree, func_parts}
-use Rattle.view_steps.specs.declared.steps.Step.TheVariants as step
+use Rattle.vocabulary.specs.declared.steps.Step.TheVariants as step
 use Rattle.session.proofs.FollowLemmas.{read_made}
 use Rattle.session.proofs.taking.take_change.Goals as goal
 

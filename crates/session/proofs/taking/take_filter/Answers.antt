@@ -1,7 +1,7 @@
 use Rattle.std.proofs.Common.{ap, sym, ◌∙◌}
 use Rattle.fn_lang.specs.PartTrees.{pred_of, pred_of-parts}
 use Rattle.fn_lang.specs.Trees.{PredTree, pred_parts}
-use Rattle.view_steps.specs.declared.steps.Step.TheVariants as step
+use Rattle.vocabulary.specs.declared.steps.Step.TheVariants as step
 use Rattle.session.proofs.FollowLemmas.{read_made}
 use Rattle.session.proofs.taking.take_filter.Goals as goal
 

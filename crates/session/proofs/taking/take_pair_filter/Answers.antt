@@ -1,7 +1,7 @@
 use Rattle.std.proofs.Common.{ap, sym, ◌∙◌}
 use Rattle.fn_lang.specs.PartTrees.{pair_of, pair_of-parts}
 use Rattle.fn_lang.specs.Trees.{PairTree, pair_parts}
-use Rattle.view_steps.specs.declared.steps.Step.TheVariants as step
+use Rattle.vocabulary.specs.declared.steps.Step.TheVariants as step
 use Rattle.session.proofs.FollowLemmas.{read_made}
 use Rattle.session.proofs.taking.take_pair_filter.Goals as goal
 

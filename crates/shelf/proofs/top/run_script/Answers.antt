@@ -1,7 +1,7 @@
 use Rattle.std.proofs.Common.{◌≡◌, ℕ, ◌+◌, ◌^◌, ◌-◌, ◌≤◌, List, ◌++◌, length, take, Option, Err, ap, subst, arith}
 use Rattle.std.proofs.lemmas.Result.{err_from_is_err_and}
 use Rattle.std.proofs.lemmas.List.{length-take-le, length-take, take-append-le}
-use Rattle.session.specs.State.{State}
+use Rattle.machine.specs.State.{State}
 use Rattle.shelf.specs.Feed.{Fed, FedFront, FedWhole}
 use Rattle.shelf.proofs.Pieces.{weaker}
 use Rattle.shelf.proofs.Runs.{all_taken, comes, ends, ends_at_fault, ends_in_line, ends_too_long, ends_unread}

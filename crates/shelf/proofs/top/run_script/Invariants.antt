@@ -1,5 +1,5 @@
 use Rattle.std.proofs.Common.{◌≡◌, ℕ, ◌+◌, ◌-◌, ◌^◌, ◌≤◌, min, List, Some}
-use Rattle.view_steps.specs.Limits.{ChangesUpTo}
+use Rattle.machine.specs.RowCounts.{ChangesUpTo}
 use Rattle.shelf.specs.Feed.{Coming}
 use Rattle.shelf.proofs.top.run_script.Given as goal
 

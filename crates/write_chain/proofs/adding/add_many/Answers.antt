@@ -11,10 +11,10 @@ pub returns-in-Ok : goal.returns-in-Ok
 returns-in-Ok g c =
     let s = c.args.store.now in
     let v = view_in s c.args.n in
-    add_placed s c.place_rows.new.self v c.args.items.now c.args.spot c.args.answer true c.base_of-b.result c.if-not-all_lift.ensures refl c.base_of-b.ensures.base c.in-Ok.ensures.ok c.in-Ok.ensures.few
+    add_placed s c.place_rows.new.self v c.args.items.now c.args.spot c.args.answer true c.base_of-b.result c.base_of-b.ensures.known c.if-not-all_lift.ensures refl c.base_of-b.ensures.base c.in-Ok.ensures.ok c.in-Ok.ensures.few
 
 pub returns-in-Err : goal.returns-in-Err
 returns-in-Err g c =
     let s = c.args.store.now in
     let v = view_in s c.args.n in
-    add_stopped s c.place_rows.new.self v c.args.items.now c.args.spot c.args.answer true c.base_of-b.result c.in-Err.why c.if-not-all_lift.ensures refl c.base_of-b.ensures.base c.in-Err.ensures.err c.in-Err.ensures.cause
+    add_stopped s c.place_rows.new.self v c.args.items.now c.args.spot c.args.answer true c.base_of-b.result c.in-Err.why c.base_of-b.ensures.known c.if-not-all_lift.ensures refl c.base_of-b.ensures.base c.in-Err.ensures.err c.in-Err.ensures.cause

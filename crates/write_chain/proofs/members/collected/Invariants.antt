@@ -1,7 +1,7 @@
 use Rattle.std.proofs.Common.{◌≡◌, ◌++◌, length}
 use Rattle.base_store.specs.Stored.{view_in}
 use Rattle.read_chain.specs.Walks.{IsWalk, to_come}
-use Rattle.view_steps.specs.Views.{shown}
+use Rattle.machine.specs.Views.{shown}
 use Rattle.write_chain.proofs.members.collected.Given as goal
 
 abbrev pub invariant-loop-item : goal.invariant-loop-item

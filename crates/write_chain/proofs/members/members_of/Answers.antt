@@ -4,8 +4,8 @@ use Rattle.elem.specs.declared.elements.Elem.{Elem}
 use Rattle.elem.specs.Elements.{same}
 use Rattle.base_store.specs.Stored.{view_in}
 use Rattle.read_chain.specs.Walks.{to_come}
-use Rattle.view_steps.specs.Answers.{has_key}
-use Rattle.view_steps.specs.Views.{shown}
+use Rattle.machine.specs.Shown.{has_key}
+use Rattle.machine.specs.Views.{shown}
 use Rattle.write_chain.specs.Members.{is_member}
 use Rattle.write_chain.proofs.MemberLemmas.{members_more}
 use Rattle.write_chain.proofs.members.members_of.Goals as goal

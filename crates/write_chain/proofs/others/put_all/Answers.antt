@@ -1,10 +1,13 @@
 use Rattle.std.proofs.Common.{◌∙◌}
 use Rattle.base_store.specs.Stored.{view_in}
+use Rattle.write_chain.proofs.KnownCalls.{stands}
 use Rattle.write_chain.proofs.OtherLemmas.{entries_fit}
 use Rattle.write_chain.proofs.others.put_all.Goals as goal
 
 pub add_many-requires-clause-fits : goal.add_many-requires-clause-fits
 add_many-requires-clause-fits g c =
     let s = c.args.store.now in
-    entries_fit s.world (view_in s c.args.n) (view_in s c.args.other) c.base_of-b.result c.deref-rows.result.now (record { base = c.base_of-b.ensures.base; made = c.base_of-b.ensures.made; rows_fit = c.rows_fit.ensures })
+    let v = view_in s c.args.n in
+    entries_fit s.world v (view_in s c.args.other) c.base_of-b.result c.deref-rows.result.now (record { base = c.base_of-b.ensures.base; known = c.base_of-b.ensures.known; kind = c.base_of-b.ensures.kind; made = c.base_of-b.ensures.made; rows_fit = c.rows_fit.ensures })
+    (stands s.world v c.base_of-base.result c.base_of-base.ensures.base c.base_of-base.ensures.known c.base_of-base.ensures.kind c.base_of-base.ensures.made)
     (c.deref-rows.ensures.value ∙ c.in-Ok.ensures.items) c.requires.adds c.requires.map c.requires.others

@@ -1,10 +1,11 @@
 use Rattle.std.proofs.Common.{ap, subst}
 use Rattle.std.specs.Prelude.{Ok}
 use Rattle.base_store.specs.Stored.{view_in}
-use Rattle.view_steps.specs.declared.answers.Answer.{Answer}
-use Rattle.view_steps.specs.declared.answers.Answer.TheVariants.{Truth}
-use Rattle.view_steps.specs.Answering.{all_hits}
-use Rattle.view_steps.specs.Views.{base_under, candidates}
+use Rattle.vocabulary.specs.declared.answers.Answer.{Answer}
+use Rattle.vocabulary.specs.declared.answers.Answer.TheVariants.{Truth}
+use Rattle.machine.specs.CallEdits.{all_hits}
+use Rattle.machine.specs.Views.{candidates}
+use Rattle.view_steps.specs.KnownViews.{number_under}
 use Rattle.write_chain.specs.Calls.{Came, removed}
 use Rattle.write_chain.specs.Members.{among_passes}
 use Rattle.view_steps.proofs.ChangeLemmas.{room}
@@ -17,11 +18,11 @@ drop_of_keys-requires g c = record {
   node = c.requires.node;
   keyed = c.looks_up.ensures.keyed c.if-looks_up.true;
   keys = among_key c.args.test.now (c.looks_up.ensures.among c.if-looks_up.true);
-  change = room c.args.store.now.world (base_under (view_in c.args.store.now c.args.n)) c.requires.change;
+  change = room c.args.store.now.world (number_under (view_in c.args.store.now c.args.n)) c.requires.change;
 }
 
 pub drop_shown-requires-clause-change : goal.drop_shown-requires-clause-change
-drop_shown-requires-clause-change g c = room c.args.store.now.world (base_under (view_in c.args.store.now c.args.n)) c.requires.change
+drop_shown-requires-clause-change g c = room c.args.store.now.world (number_under (view_in c.args.store.now c.args.n)) c.requires.change
 
 pub returns-then-looks_up : goal.returns-then-looks_up
 returns-then-looks_up g c =

@@ -1,9 +1,9 @@
 use Rattle.std.proofs.Common.{sym, subst}
 use Rattle.std.specs.Prelude.{Ok}
 use Rattle.base_store.specs.Stored.{view_in}
-use Rattle.view_steps.specs.declared.answers.Answer.TheVariants.{Element}
-use Rattle.view_steps.specs.Answering.{hit_at}
-use Rattle.view_steps.specs.Views.{candidates}
+use Rattle.vocabulary.specs.declared.answers.Answer.TheVariants.{Element}
+use Rattle.machine.specs.CallEdits.{hit_at}
+use Rattle.machine.specs.Views.{candidates}
 use Rattle.write_chain.specs.Calls.{Came}
 use Rattle.write_chain.proofs.RemoveLemmas.{gone_came, remove_at_given, row_gone}
 use Rattle.write_chain.proofs.removing.remove_at.Goals as goal

@@ -1,13 +1,15 @@
 use Rattle.std.proofs.Common.{ap, arith, subst, true, false}
 use Rattle.std.specs.Prelude.{Ok}
 use Rattle.base_store.specs.Stored.{view_in}
-use Rattle.view_steps.specs.declared.answers.Answer.{Answer}
-use Rattle.view_steps.specs.declared.answers.Answer.TheVariants.{Truth}
-use Rattle.view_steps.specs.Answering.{first_hit}
-use Rattle.view_steps.specs.Items.{same_item}
-use Rattle.view_steps.specs.Views.{base_under, candidates}
+use Rattle.vocabulary.specs.declared.answers.Answer.{Answer}
+use Rattle.vocabulary.specs.declared.answers.Answer.TheVariants.{Truth}
+use Rattle.machine.specs.CallEdits.{first_hit}
+use Rattle.vocabulary.specs.Items.{same_item}
+use Rattle.machine.specs.Views.{candidates}
+use Rattle.view_steps.specs.KnownViews.{number_under}
 use Rattle.write_chain.specs.Calls.{Came, removed}
 use Rattle.write_chain.proofs.HitLemmas.{one_shown}
+use Rattle.write_chain.proofs.KnownCalls.{stands}
 use Rattle.write_chain.proofs.RemoveLemmas.{gone_came, none_hit, row_gone}
 use Rattle.write_chain.proofs.removing.remove_item.Goals as goal
 use Rattle.view_steps.proofs.HitLemmas.{none_shown}
@@ -32,5 +34,5 @@ returns-in-None-clause-came g c =
     let v = view_in s c.args.n in
     let passes = same_item c.args.item.now in
     let gone = first_hit passes (candidates s.world v) in
-    subst (λ (a : Answer). Came (Ok (Truth false)) s s (removed s.world v gone a)) (ap Truth (none_shown s.world v passes c.in-None.ensures.none))
-    (gone_came s s v gone (Truth false) (none_hit s (base_under v) gone c.in-None.ensures.none) (omega (arith, c.rows_left-left.ensures)))
+    subst (λ (a : Answer). Came (Ok (Truth false)) s s (removed s.world v gone a)) (ap Truth (none_shown s.world v passes c.base_of-b.ensures.known c.in-None.ensures.none))
+    (gone_came s s v gone (Truth false) (none_hit s (number_under v) gone (stands s.world v c.base_of-b.result c.base_of-b.ensures.base c.base_of-b.ensures.known c.base_of-b.ensures.kind c.base_of-b.ensures.made).kind c.in-None.ensures.none) (omega (arith, c.rows_left-left.ensures)))

@@ -1,12 +1,14 @@
 use Rattle.std.proofs.Common.{ap, arith, subst, Some, None}
 use Rattle.std.specs.Prelude.{Ok}
 use Rattle.base_store.specs.Stored.{view_in}
-use Rattle.view_steps.specs.declared.answers.Answer.{Answer}
-use Rattle.view_steps.specs.declared.answers.Answer.TheVariants.{Optional}
-use Rattle.view_steps.specs.Answering.{first_hit}
-use Rattle.view_steps.specs.Answers.{has_key}
-use Rattle.view_steps.specs.Views.{base_under, candidates}
+use Rattle.vocabulary.specs.declared.answers.Answer.{Answer}
+use Rattle.vocabulary.specs.declared.answers.Answer.TheVariants.{Optional}
+use Rattle.machine.specs.CallEdits.{first_hit}
+use Rattle.machine.specs.Shown.{has_key}
+use Rattle.machine.specs.Views.{candidates}
+use Rattle.view_steps.specs.KnownViews.{number_under}
 use Rattle.write_chain.specs.Calls.{Came, removed}
+use Rattle.write_chain.proofs.KnownCalls.{stands}
 use Rattle.write_chain.proofs.RemoveLemmas.{gone_came, none_hit, row_gone}
 use Rattle.write_chain.proofs.removing.remove_key.Goals as goal
 use Rattle.view_steps.proofs.ChangeLemmas.{room}
@@ -30,4 +32,4 @@ returns-in-None-clause-came g c =
     let v = view_in s c.args.n in
     let gone = first_hit (has_key c.args.k.now) (candidates s.world v) in
     subst (λ (a : Answer). Came (Ok (Optional None)) s s (removed s.world v gone a)) (ap Optional c.in-None.ensures.value)
-    (gone_came s s v gone (Optional None) (none_hit s (base_under v) gone c.in-None.ensures.none) (omega (arith, c.rows_left-left.ensures)))
+    (gone_came s s v gone (Optional None) (none_hit s (number_under v) gone (stands s.world v c.base_of-b.result c.base_of-b.ensures.base c.base_of-b.ensures.known c.base_of-b.ensures.kind c.base_of-b.ensures.made).kind c.in-None.ensures.none) (omega (arith, c.rows_left-left.ensures)))

@@ -1,6 +1,7 @@
 use Rattle.std.proofs.Common.{sym}
-use Rattle.base_store.specs.BaseRows.{rows_of}
+use Rattle.base_rows.specs.BaseRows.{rows_of}
 use Rattle.base_store.specs.contracts.store.Slot.{the_view}
+use Rattle.base_rows.proofs.KeyedRows.{known_rows}
 use Rattle.base_store.proofs.store.Slot.place_all.Goals as goal
 use Rattle.view_steps.proofs.EditedRows.{without_none, edited_adding}
 
@@ -10,4 +11,4 @@ returns-in-Err-clause-cause c d = rw (← d.self.view_is, without_none 0 (rows_o
 pub returns-in-Ok-clause-ok : goal.returns-in-Ok-clause-ok
 returns-in-Ok-clause-ok c d =
     rw (d.raised-self-inside.ensures, d.len-before.ensures.len, d.len-after.ensures.len, d.in-Ok.ensures.ok, d.in-Ok.ensures.kind, ← d.self.view_is)
-    (sym (edited_adding (the_view d.self.inside) d.args.spot d.args.rows.now))
+    (sym (edited_adding (the_view d.self.inside) (known_rows d.self.inside.rows) d.args.spot d.args.rows.now))

@@ -1,10 +1,11 @@
 use Rattle.std.proofs.Common.{arith}
-use Rattle.view_steps.specs.Edits.{removing}
-use Rattle.view_steps.specs.Views.{base_at, candidates}
+use Rattle.machine.specs.Edits.{removing}
+use Rattle.machine.specs.Bases.{base_at}
+use Rattle.machine.specs.Views.{candidates}
 use Rattle.base_store.specs.Stored.{Stored, view_in}
 use Rattle.base_store.proofs.AnyShown.{any_removed}
 use Rattle.base_store.proofs.BuiltLemmas.{sound_edited}
-use Rattle.view_steps.specs.Answering.{all_hits}
+use Rattle.machine.specs.CallEdits.{all_hits}
 use Rattle.base_store.specs.declared.store.Made.TheVariants.{Over}
 use Rattle.base_store.specs.Nodes.{view_at}
 use Rattle.base_store.proofs.store.Store.drop_reached.Goals as goal
@@ -65,4 +66,4 @@ returns-clause-any c d =
     let was = rw d.as_slice.ensures.value at d.rows_at-before.ensures in
     let after = rw d.number.ensures at d.drop_in.ensures.after in
     let is = rw (d.as_slice-2.ensures.value, after) at d.rows_at-after.ensures in
-    rw (← d.self.view_is) (any_removed s.world (view_in s d.args.n) (c.T.RowTest.passes d.args.test.now) d.number-at.result d.rows_at-before.result d.rows_at-after.result lt under was is)
+    rw (← d.self.view_is) (any_removed s.world (view_in s d.args.n) (rw (← d.self.view_is) at d.base_of.ensures.known) (c.T.RowTest.passes d.args.test.now) d.number-at.result d.rows_at-before.result d.rows_at-after.result lt under was is)

@@ -5,4 +5,4 @@ use Rattle.base_store.proofs.store.Store.new_base.Goals as goal
 pub invariant_of-self-2 : goal.invariant_of-self-2
 invariant_of-self-2 c =
     rw (c.in-Ok-add_base.ensures.slots, c.in-Ok-add_base.ensures.nodes, c.in-Ok.ensures.kind)
-    (sound_more _ _ _ _ c.self.invariant (omega (arith, c.if-self-eq-MOST_HANDLES.false, c.self.invariant.handles)))
+    (sound_more _ _ _ _ c.requires.known c.self.invariant (omega (arith, c.if-self-eq-MOST_HANDLES.false, c.self.invariant.handles)))

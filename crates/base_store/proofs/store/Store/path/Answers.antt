@@ -1,5 +1,5 @@
 use Rattle.std.proofs.Common.{◌≤◌, arith, ap}
-use Rattle.view_steps.specs.Views.{path}
+use Rattle.machine.specs.Views.{path}
 use Rattle.base_store.specs.declared.store.facts.Facts.{Facts}
 use Rattle.base_store.specs.Stored.{Stored, view_in}
 use Rattle.base_store.proofs.BuiltLemmas.{path_below}

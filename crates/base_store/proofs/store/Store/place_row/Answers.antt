@@ -1,9 +1,9 @@
 use Rattle.std.proofs.Common.{◌∷◌, [], ◌∙◌, sym, arith, inl, refl}
-use Rattle.view_steps.specs.Edits.{adding}
-use Rattle.view_steps.specs.Views.{base_at}
+use Rattle.machine.specs.Edits.{adding}
+use Rattle.machine.specs.Bases.{base_at}
 use Rattle.base_store.specs.Stored.{Stored}
 use Rattle.base_store.proofs.BuiltLemmas.{sound_edited}
-use Rattle.base_store.proofs.SpotLemmas.{row_fits, row_grows, row_too_many}
+use Rattle.base_rows.proofs.SpotLemmas.{row_fits, row_grows, row_too_many}
 use Rattle.base_store.proofs.store.Store.place_row.Goals as goal
 
 pub returns-then-is_full-clause-cause : goal.returns-then-is_full-clause-cause
@@ -11,7 +11,7 @@ returns-then-is_full-clause-cause c d =
     let lt = rw (← d.self.view_is, ← d.number-at.ensures) at d.requires.base in
     let spot = rw (← d.self.view_is, ← d.number-at.ensures) at d.requires.spot in
     let full = rw (d.as_slice-2.ensures.value, d.self.invariant.counted) at (sym d.is_full.ensures.full ∙ d.if-is_full.true) in
-    inl (refl, rw (← d.self.view_is, ← d.number-at.ensures) (row_too_many d.self.inside.slots.items d.number-at.result d.args.spot d.args.row.now lt spot full))
+    inl (refl, rw (← d.self.view_is, ← d.number-at.ensures) (row_too_many d.self.inside.slots.items d.number-at.result (d.self.invariant.built.kinds d.number-at.result) d.args.spot d.args.row.now lt spot full))
 
 pub overflow_sub-self : goal.overflow_sub-self
 overflow_sub-self c d =
@@ -22,7 +22,7 @@ overflow_sub-self c d =
     let is = rw (d.as_slice-3.ensures.value, d.in-Ok.ensures.ok) at d.rows_at-after.ensures in
     let full = rw d.as_slice-2.ensures.value at (sym d.is_full.ensures.full ∙ d.if-is_full.false) in
     let keys = d.in-Ok.ensures.keys in
-    let room = row_fits d.self.inside.rows (base_at d.self.inside.slots.items d.number-at.result) d.args.spot d.args.row.now d.self.invariant.few spot full keys in
+    let room = row_fits d.self.inside.rows (base_at d.self.inside.slots.items d.number-at.result) (d.self.invariant.built.kinds d.number-at.result) d.args.spot d.args.row.now d.self.invariant.few spot full keys in
     let h = sound_edited s d.self.inside.rows d.number-at.result d.rows_at-before.result d.rows_at-after.result (adding d.args.spot (d.args.row.now ∷ [])) d.self.invariant lt keys was is room in
     h.0
 
@@ -35,7 +35,7 @@ overflow_add-self c d =
     let is = rw (d.as_slice-3.ensures.value, d.in-Ok.ensures.ok) at d.rows_at-after.ensures in
     let full = rw d.as_slice-2.ensures.value at (sym d.is_full.ensures.full ∙ d.if-is_full.false) in
     let keys = d.in-Ok.ensures.keys in
-    let room = row_fits d.self.inside.rows (base_at d.self.inside.slots.items d.number-at.result) d.args.spot d.args.row.now d.self.invariant.few spot full keys in
+    let room = row_fits d.self.inside.rows (base_at d.self.inside.slots.items d.number-at.result) (d.self.invariant.built.kinds d.number-at.result) d.args.spot d.args.row.now d.self.invariant.few spot full keys in
     let h = sound_edited s d.self.inside.rows d.number-at.result d.rows_at-before.result d.rows_at-after.result (adding d.args.spot (d.args.row.now ∷ [])) d.self.invariant lt keys was is room in
     omega (arith, h.1.few)
 
@@ -48,7 +48,7 @@ invariant_of-self-2 c d =
     let is = rw (d.as_slice-3.ensures.value, d.in-Ok.ensures.ok) at d.rows_at-after.ensures in
     let full = rw d.as_slice-2.ensures.value at (sym d.is_full.ensures.full ∙ d.if-is_full.false) in
     let keys = d.in-Ok.ensures.keys in
-    let room = row_fits d.self.inside.rows (base_at d.self.inside.slots.items d.number-at.result) d.args.spot d.args.row.now d.self.invariant.few spot full keys in
+    let room = row_fits d.self.inside.rows (base_at d.self.inside.slots.items d.number-at.result) (d.self.invariant.built.kinds d.number-at.result) d.args.spot d.args.row.now d.self.invariant.few spot full keys in
     let h = sound_edited s d.self.inside.rows d.number-at.result d.rows_at-before.result d.rows_at-after.result (adding d.args.spot (d.args.row.now ∷ [])) d.self.invariant lt keys was is room in
     rw d.in-Ok.ensures.ok h.1
 
@@ -61,7 +61,7 @@ returns-clause-few c d =
     let is = rw (d.as_slice-3.ensures.value, d.in-Ok.ensures.ok) at d.rows_at-after.ensures in
     let full = rw d.as_slice-2.ensures.value at (sym d.is_full.ensures.full ∙ d.if-is_full.false) in
     let keys = d.in-Ok.ensures.keys in
-    let room = row_fits d.self.inside.rows (base_at d.self.inside.slots.items d.number-at.result) d.args.spot d.args.row.now d.self.invariant.few spot full keys in
+    let room = row_fits d.self.inside.rows (base_at d.self.inside.slots.items d.number-at.result) (d.self.invariant.built.kinds d.number-at.result) d.args.spot d.args.row.now d.self.invariant.few spot full keys in
     let h = sound_edited s d.self.inside.rows d.number-at.result d.rows_at-before.result d.rows_at-after.result (adding d.args.spot (d.args.row.now ∷ [])) d.self.invariant lt keys was is room in
     rw d.in-Ok.ensures.ok (omega (arith, h.1.counted, h.1.few))
 
@@ -70,4 +70,4 @@ returns-in_default-clause-memory c d = λ e.
     let lt = rw (← d.self.view_is, ← d.number-at.ensures) at d.requires.base in
     let spot = rw (← d.self.view_is, ← d.number-at.ensures) at d.requires.spot in
     let full = rw (d.as_slice-2.ensures.value, d.self.invariant.counted) at (sym d.is_full.ensures.full ∙ d.if-is_full.false) in
-    rw (← d.self.view_is, ← d.number-at.ensures) (row_grows d.self.inside.slots.items d.number-at.result d.args.spot d.args.row.now lt spot (rw d.self.invariant.counted at d.self.invariant.few) full d.in_default.ensures.memory)
+    rw (← d.self.view_is, ← d.number-at.ensures) (row_grows d.self.inside.slots.items d.number-at.result (d.self.invariant.built.kinds d.number-at.result) d.args.spot d.args.row.now lt spot (rw d.self.invariant.counted at d.self.invariant.few) full d.in_default.ensures.memory)

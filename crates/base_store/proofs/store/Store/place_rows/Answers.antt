@@ -1,5 +1,5 @@
 use Rattle.std.proofs.Common.{arith, refl}
-use Rattle.view_steps.specs.Edits.{adding}
+use Rattle.machine.specs.Edits.{adding}
 use Rattle.base_store.specs.Stored.{Stored}
 use Rattle.base_store.proofs.BuiltLemmas.{sound_edited}
 use Rattle.base_store.proofs.store.Store.place_rows.Goals as goal
@@ -26,7 +26,7 @@ invariant_of-self-in-Ok c d =
 pub returns-in-Err-clause-cause : goal.returns-in-Err-clause-cause
 returns-in-Err-clause-cause c d =
     let lt = rw (← d.self.view_is, ← d.number-at.ensures) at d.requires.base in
-    rw (← d.self.view_is, ← d.number-at.ensures) (limit_cause d.self.inside.slots.items d.number-at.result _ (adding d.args.spot d.args.rows.now) d.in-Err.why lt (omega (arith, d.self.invariant.few, d.self.invariant.counted)) d.in-Err.ensures.cause)
+    rw (← d.self.view_is, ← d.number-at.ensures) (limit_cause d.self.inside.slots.items d.number-at.result (d.self.invariant.built.kinds d.number-at.result) _ (adding d.args.spot d.args.rows.now) d.in-Err.why lt (omega (arith, d.self.invariant.few, d.self.invariant.counted)) d.in-Err.ensures.cause)
 
 pub returns-in-Ok-clause-ok : goal.returns-in-Ok-clause-ok
 returns-in-Ok-clause-ok c d = rw (← d.self.view_is, d.in-Ok.ensures.ok, d.number-at.ensures) refl

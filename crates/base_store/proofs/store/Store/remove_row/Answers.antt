@@ -1,6 +1,6 @@
 use Rattle.std.proofs.Common.{arith}
-use Rattle.view_steps.specs.Edits.{edited, removing}
-use Rattle.view_steps.specs.Views.{base_at}
+use Rattle.machine.specs.Edits.{edited, removing}
+use Rattle.machine.specs.Bases.{base_at}
 use Rattle.base_store.specs.Stored.{Stored}
 use Rattle.base_store.proofs.BuiltLemmas.{sound_edited}
 use Rattle.std.proofs.lemmas.List.{length-set}

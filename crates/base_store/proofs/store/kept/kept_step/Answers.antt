@@ -1,7 +1,7 @@
 use Rattle.std.proofs.Common.{ap, sym, ◌∙◌}
 use Rattle.fn_lang.specs.PartTrees.{func_of, func_of-parts, pair_of, pair_of-parts, pred_of, pred_of-parts}
 use Rattle.fn_lang.specs.Trees.{FuncTree, PairTree, PredTree}
-use Rattle.view_steps.specs.declared.steps.Step.TheVariants as step
+use Rattle.vocabulary.specs.declared.steps.Step.TheVariants as step
 use Rattle.base_store.proofs.store.kept.kept_step.Goals as goal
 
 pub returns-in-Filter-clause-step : goal.returns-in-Filter-clause-step

@@ -1,8 +1,7 @@
 use Rattle.std.proofs.Common.{◌∙◌, ap}
 use Rattle.std.specs.Prelude.{Some}
-use Rattle.base_store.specs.declared.store.Made.TheVariants.{Over}
 use Rattle.base_store.specs.declared.store.kept.KeptMade.{KeptMade}
-use Rattle.base_store.specs.KeptSteps.{MadeStands, made_by, made_in}
+use Rattle.base_store.specs.KeptSteps.{made_by, made_in}
 use Rattle.base_store.proofs.KeptLemmas.{node_stands, read_map}
 use Rattle.base_store.proofs.store.nodes.made_of.Goals as goal
 

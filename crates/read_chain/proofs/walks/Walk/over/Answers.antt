@@ -1,5 +1,5 @@
 use Rattle.base_store.specs.Stored.{view_in}
-use Rattle.view_steps.specs.Views.{candidates}
+use Rattle.machine.specs.Views.{candidates}
 use Rattle.read_chain.proofs.WalkLemmas.{all_to_come}
 use Rattle.read_chain.proofs.walks.Walk.over.Goals as goal
 

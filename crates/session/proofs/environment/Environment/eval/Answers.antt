@@ -1,10 +1,11 @@
 use Rattle.std.proofs.Common.{◌<◌, ℕ, refl, sym, ◌∙◌, ap, subst}
 use Rattle.std.specs.Option.{option_copied}
 use Rattle.std.specs.Prelude.{codes}
-use Rattle.session.specs.Machine.{eval_of}
-use Rattle.session.specs.Outcomes.{says}
-use Rattle.session.specs.Parts.{parts_in}
-use Rattle.session.specs.State.{State, view_named}
+use Rattle.session.specs.Following.{parts_in}
+use Rattle.machine.specs.Languages.{known}
+use Rattle.machine.specs.Lines.{eval_of}
+use Rattle.machine.specs.Outcomes.{says}
+use Rattle.machine.specs.State.{State, named as bound_to}
 use Rattle.session.proofs.NameLemmas.{executed_said, found_within}
 use Rattle.session.proofs.SessionLemmas.{executed_eval, executed_from, name_unknown}
 use Rattle.session.proofs.environment.Environment.eval.Goals as goal
@@ -14,8 +15,8 @@ returns-in_default g c =
     let s = c.self.inside.store in
     let names = c.self.inside.names.entries in
     let unknown = name_unknown s.nodes names c.args.head (sym c.get.ensures.value ∙ ap option_copied c.in_default.is) in
-    let none = ap (λ (x : State). view_named x.names c.args.head) (sym c.self.view_is) ∙ unknown in
-    executed_from c.args.self.now c.args.self.now _ (λ state. says state (codes "?name")) _ refl (sym (ap (λ o. eval_of c.args.self.now o (parts_in c.args.line.now c.args.parts.now)) none)) (executed_said _ _ _ _ _ _ (codes "?name") c.say.ensures)
+    let none = ap (λ (x : State). bound_to x.names c.args.head) (sym c.self.view_is) ∙ unknown in
+    executed_from c.args.self.now c.args.self.now _ (λ state. says state (codes "?name")) _ refl (sym (ap (λ o. eval_of known c.args.self.now c.args.head o (parts_in c.args.line.now c.args.parts.now)) none)) (executed_said _ _ _ _ _ _ (codes "?name") c.say.ensures)
 
 pub evaluate-requires-clause-head : goal.evaluate-requires-clause-head
 evaluate-requires-clause-head g c =
@@ -23,5 +24,5 @@ evaluate-requires-clause-head g c =
 
 pub returns : goal.returns
 returns g c =
-    executed_from _ _ _ (λ state. eval_of state (view_named state.names c.args.head) (parts_in c.args.line.now c.args.parts.now)) _ c.self.view_is refl
-    (executed_eval c.self.inside.store c.evaluate.new.store c.self.inside.names.entries c.args.head c.in-Some.head.now (parts_in c.args.line.now c.args.parts.now) (sym c.get.ensures.value ∙ ap option_copied c.in-Some.is) c.evaluate.ensures)
+    executed_from _ _ _ (λ state. eval_of known state c.args.head (bound_to state.names c.args.head) (parts_in c.args.line.now c.args.parts.now)) _ c.self.view_is refl
+    (executed_eval c.self.inside.store c.evaluate.new.store c.self.inside.names.entries c.args.head c.in-Some.head.now (parts_in c.args.line.now c.args.parts.now) (sym c.get.ensures.value ∙ ap option_copied c.in-Some.is) c.evaluate.ensures.known c.evaluate.ensures.came)

@@ -1,7 +1,6 @@
-use Rattle.std.proofs.Common.{◌≡◌, ◌∷◌, [], ◌++◌, ◌∙◌, ap, length, refl}
+use Rattle.std.proofs.Common.{◌≡◌, ◌∷◌, [], ◌++◌, length, refl}
 use Rattle.std.specs.Prelude.{map}
 use Rattle.std.proofs.lemmas.List.{append_assoc, map-append}
-use Rattle.base_store.specs.declared.store.Made.TheVariants.{Over}
 use Rattle.base_store.specs.declared.store.kept.Kept.{Kept}
 use Rattle.base_store.specs.declared.store.kept.KeptMade.TheVariants as node
 use Rattle.base_store.specs.KeptSteps.{MadeStands, facts_in, parts_of, step_in}

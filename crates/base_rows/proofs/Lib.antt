@@ -1,0 +1,14 @@
+pub mod KeyLemmas
+pub mod WindowLines
+pub mod KeyedRows
+pub mod PlaceLines
+pub mod IndexLines
+pub mod ListLines
+pub mod DropLemmas
+pub mod JournalLemmas
+pub mod ListRowLemmas
+pub mod PutLemmas
+pub mod SpotLemmas
+pub mod FitLemmas
+pub mod KeyDrops
+pub mod WindowDrops

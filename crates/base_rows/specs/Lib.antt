@@ -1,0 +1,5 @@
+pub mod Adding
+pub mod BaseRows
+pub mod KeyLines
+pub mod Journals
+pub mod Reaches

@@ -1,0 +1,15 @@
+-- Removals that look at a part of the rows of a base.
+use Rattle.std.specs.Prelude.{◌≡◌, Bool, true, is_some}
+use Rattle.elem.specs.Keyed.{value_at}
+use Rattle.base_rows.specs.declared.reach.Reach.{Reach}
+use Rattle.base_rows.specs.declared.reach.Reach.TheVariants.{Whole, Along, At}
+use Rattle.vocabulary.specs.declared.items.Item.{Item}
+use Rattle.vocabulary.specs.declared.kinds.Kind.{Kind}
+use Rattle.vocabulary.specs.Items.{key_of}
+use Rattle.view_steps.specs.Lanes.{takes, Serves}
+
+-- the removal looks at each row that passes
+abbrev pub Reaches : Kind → Reach → (Item → Bool) → Type 0
+Reaches kind Whole passes = (row : Item) → passes row ≡ true
+Reaches kind (Along lane) passes = Serves kind lane.now × ((row : Item) → passes row ≡ true → takes lane.now row ≡ true)
+Reaches kind (At keys) passes = (row : Item) → passes row ≡ true → is_some (value_at keys.now (key_of row)) ≡ true

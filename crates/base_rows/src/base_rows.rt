@@ -1,0 +1,92 @@
+//! The rows of a base, in the type of its kind.
+ghost use Rattle.std.specs.Prelude.{◌≡◌, [], length, true, IfOk};
+ghost use Rattle.base_rows.specs.BaseRows.{kind_of, plain, rows_of, AreRowsOf};
+ghost use Rattle.view_steps.specs.Places.{HasKeys};
+ghost use Rattle.vocabulary.specs.Known.{is_known_kind};
+
+mod dropping;
+mod placing;
+mod reading;
+
+use elem::{ByLength, Elem, Keyed, NoMemory, Reverse};
+use linked_base::{LinkedMap, LinkedSet};
+use plain_base::{ArrayRows, TreeMapRows, TreeSetRows};
+use std::alloc::Global;
+use vocabulary::Kind;
+
+/// The rows of a base.
+#[derive(Drop)]
+pub enum BaseRows {
+    ArrayList(ArrayRows),
+    LinkedHashSet(LinkedSet),
+    TreeSet(TreeSetRows),
+    TreeSetReverse(TreeSetRows<Reverse>),
+    TreeSetLength(TreeSetRows<ByLength>),
+    LinkedHashMap(LinkedMap<Elem>),
+    TreeMap(TreeMapRows<Elem>),
+    TreeMapReverse(TreeMapRows<Elem, Reverse>),
+    TreeMapLength(TreeMapRows<Elem, ByLength>),
+}
+
+impl BaseRows {
+    /// No rows, of a known kind.
+    pub fn new(alloc: Global, kind: Kind) -> Result<BaseRows, NoMemory>
+        requires known { is_known_kind kind ≡ true }
+        ensures rows { IfOk result (λ base. rows_of base ≡ []) }
+        ensures kind { IfOk result (λ base. kind_of base ≡ kind) }
+    {
+        match kind {
+            Kind::ArrayList => Ok(BaseRows::ArrayList(ArrayRows::new(alloc))),
+            Kind::LinkedHashSet => Ok(BaseRows::LinkedHashSet(LinkedMap::new(alloc)?)),
+            Kind::TreeSet => Ok(BaseRows::TreeSet(TreeMapRows::new(alloc))),
+            Kind::TreeSetReverse => Ok(BaseRows::TreeSetReverse(TreeMapRows::new(alloc))),
+            Kind::TreeSetLength => Ok(BaseRows::TreeSetLength(TreeMapRows::new(alloc))),
+            Kind::LinkedHashMap => Ok(BaseRows::LinkedHashMap(LinkedMap::new(alloc)?)),
+            Kind::TreeMap => Ok(BaseRows::TreeMap(TreeMapRows::new(alloc))),
+            Kind::TreeMapReverse => Ok(BaseRows::TreeMapReverse(TreeMapRows::new(alloc))),
+            Kind::TreeMapLength => Ok(BaseRows::TreeMapLength(TreeMapRows::new(alloc))),
+            _ => unreachable!(),
+        }
+    }
+
+    /// The kind.
+    pub fn kind(&self) -> Kind
+        ensures { result ≡ kind_of self.now }
+    {
+        match self {
+            BaseRows::ArrayList(_) => Kind::ArrayList,
+            BaseRows::LinkedHashSet(_) => Kind::LinkedHashSet,
+            BaseRows::TreeSet(_) => Kind::TreeSet,
+            BaseRows::TreeSetReverse(_) => Kind::TreeSetReverse,
+            BaseRows::TreeSetLength(_) => Kind::TreeSetLength,
+            BaseRows::LinkedHashMap(_) => Kind::LinkedHashMap,
+            BaseRows::TreeMap(_) => Kind::TreeMap,
+            BaseRows::TreeMapReverse(_) => Kind::TreeMapReverse,
+            BaseRows::TreeMapLength(_) => Kind::TreeMapLength,
+        }
+    }
+
+    /// How many rows there are.
+    #[tactic(auto, using(crate::proofs::KeyedRows::has_keys))]
+    pub fn len(&self) -> usize
+        ensures len { result ≡ length (rows_of self.now) }
+        ensures keys { HasKeys (plain self.now) }
+    {
+        match self {
+            BaseRows::ArrayList(rows) => rows.len(),
+            BaseRows::LinkedHashSet(rows) => rows.len(),
+            BaseRows::TreeSet(rows) => rows.len(),
+            BaseRows::TreeSetReverse(rows) => rows.len(),
+            BaseRows::TreeSetLength(rows) => rows.len(),
+            BaseRows::LinkedHashMap(rows) => rows.len(),
+            BaseRows::TreeMap(rows) => rows.len(),
+            BaseRows::TreeMapReverse(rows) => rows.len(),
+            BaseRows::TreeMapLength(rows) => rows.len(),
+        }
+    }
+
+    /// Does nothing; its contract says that the rows are such as the kind has.
+    pub fn rows_fit(&self)
+        ensures { AreRowsOf (kind_of self.now) (rows_of self.now) }
+    {}
+}

@@ -1,0 +1,127 @@
+//! Rows that go from a base.
+ghost use Rattle.std.specs.Prelude.{◌≡◌, ◌≤◌, ◌+◌, ℕ, List, [], Some, filter, is_some, not, true};
+ghost use Rattle.base_rows.specs.BaseRows.{kind_of, plain, rows_of};
+ghost use Rattle.base_rows.specs.Reaches.{Reaches};
+ghost use Rattle.elem.specs.Keyed.{value_at};
+ghost use Rattle.vocabulary.specs.declared.items.Item.{Item as AnItem};
+ghost use Rattle.machine.specs.Edits.{without_rows};
+ghost use Rattle.vocabulary.specs.Items.{key_of};
+ghost use Rattle.view_steps.specs.Lanes.{takes, IsFrom, Serves};
+ghost use Rattle.view_steps.specs.Places.{places_of, IsRowAt};
+
+mod keyed;
+mod listed;
+mod windowed;
+
+use self::keyed::{drop_keys, drop_rows, remove_key};
+use self::listed::{drop_items, remove_index};
+use self::windowed::drop_sorted;
+use super::BaseRows;
+use crate::RowTest;
+use crate::reach::Reach;
+use elem::{Keyed, Steps};
+use linked_base::FreeLinkedMap;
+use std::sync::ledger::Ledger;
+use view_steps::{Lane, Place};
+
+impl BaseRows {
+    /// Removes the row at a place. It takes no memory.
+    pub fn remove<L: Ledger>(&mut self, at: &Place, steps: &mut Steps<L>)
+        requires { IsFrom (places_of (plain self.old)) (Some at.now) }
+        ensures kind { kind_of self.new ≡ kind_of self.old }
+        ensures rows { (numbers : List ℕ) → IsRowAt (rows_of self.old) at.now numbers → rows_of self.new ≡ without_rows numbers 0 (rows_of self.old) }
+        ensures steps { steps.new ≤ steps.old + 1 }
+    {
+        match self {
+            BaseRows::ArrayList(rows) => remove_index(rows, at, steps),
+            BaseRows::LinkedHashSet(rows) => remove_key(rows, at, steps),
+            BaseRows::TreeSet(rows) => remove_key(rows, at, steps),
+            BaseRows::TreeSetReverse(rows) => remove_key(rows, at, steps),
+            BaseRows::TreeSetLength(rows) => remove_key(rows, at, steps),
+            BaseRows::LinkedHashMap(rows) => remove_key(rows, at, steps),
+            BaseRows::TreeMap(rows) => remove_key(rows, at, steps),
+            BaseRows::TreeMapReverse(rows) => remove_key(rows, at, steps),
+            BaseRows::TreeMapLength(rows) => remove_key(rows, at, steps),
+        }
+    }
+
+    /// Removes every row.
+    pub fn clear(&mut self)
+        ensures kind { kind_of self.new ≡ kind_of self.old }
+        ensures rows { rows_of self.new ≡ [] }
+    {
+        match self {
+            BaseRows::ArrayList(rows) => rows.clear(),
+            BaseRows::LinkedHashSet(rows) => rows.clear(),
+            BaseRows::TreeSet(rows) => rows.clear(),
+            BaseRows::TreeSetReverse(rows) => rows.clear(),
+            BaseRows::TreeSetLength(rows) => rows.clear(),
+            BaseRows::LinkedHashMap(rows) => rows.clear(),
+            BaseRows::TreeMap(rows) => rows.clear(),
+            BaseRows::TreeMapReverse(rows) => rows.clear(),
+            BaseRows::TreeMapLength(rows) => rows.clear(),
+        }
+    }
+
+    /// Removes every row that passes a test. It looks at those within its reach alone, and takes no memory.
+    pub fn drop_all<T: RowTest, L: Ledger>(
+        &mut self,
+        reach: Reach<'_>,
+        test: &T,
+        steps: &mut Steps<L>,
+    )
+        requires { Reaches (kind_of self.old) reach (T.passes test.now) }
+        ensures kind { kind_of self.new ≡ kind_of self.old }
+        ensures rows { rows_of self.new ≡ filter (λ row. not (T.passes test.now row)) (rows_of self.old) }
+    {
+        match reach {
+            Reach::Whole => self.clear(),
+            Reach::Along(lane) => self.drop_along(lane, test, steps),
+            Reach::At(keys) => self.drop_at(keys, test, steps),
+        }
+    }
+
+    /// Removes every row that passes a test, where each of them stands in a lane.
+    fn drop_along<T: RowTest, L: Ledger>(&mut self, lane: &Lane, test: &T, steps: &mut Steps<L>)
+        requires serves { Serves (kind_of self.old) lane.now }
+        requires reach { (row : AnItem) → T.passes test.now row ≡ true → takes lane.now row ≡ true }
+        ensures kind { kind_of self.new ≡ kind_of self.old }
+        ensures rows { rows_of self.new ≡ filter (λ row. not (T.passes test.now row)) (rows_of self.old) }
+    {
+        match self {
+            BaseRows::ArrayList(rows) => drop_items(rows, test, steps),
+            BaseRows::LinkedHashSet(rows) => drop_rows(rows, test, steps),
+            BaseRows::TreeSet(rows) => drop_sorted(rows, lane, test, steps),
+            BaseRows::TreeSetReverse(rows) => drop_sorted(rows, lane, test, steps),
+            BaseRows::TreeSetLength(rows) => drop_sorted(rows, lane, test, steps),
+            BaseRows::LinkedHashMap(rows) => drop_rows(rows, test, steps),
+            BaseRows::TreeMap(rows) => drop_sorted(rows, lane, test, steps),
+            BaseRows::TreeMapReverse(rows) => drop_sorted(rows, lane, test, steps),
+            BaseRows::TreeMapLength(rows) => drop_sorted(rows, lane, test, steps),
+        }
+    }
+
+    /// Removes every row that passes a test, where each of them has one of some keys. A list is looked through.
+    fn drop_at<T: RowTest, L: Ledger>(
+        &mut self,
+        keys: &FreeLinkedMap<()>,
+        test: &T,
+        steps: &mut Steps<L>,
+    )
+        requires { (row : AnItem) → T.passes test.now row ≡ true → is_some (value_at keys.now (key_of row)) ≡ true }
+        ensures kind { kind_of self.new ≡ kind_of self.old }
+        ensures rows { rows_of self.new ≡ filter (λ row. not (T.passes test.now row)) (rows_of self.old) }
+    {
+        match self {
+            BaseRows::ArrayList(rows) => drop_items(rows, test, steps),
+            BaseRows::LinkedHashSet(rows) => drop_keys(rows, keys, test, steps),
+            BaseRows::TreeSet(rows) => drop_keys(rows, keys, test, steps),
+            BaseRows::TreeSetReverse(rows) => drop_keys(rows, keys, test, steps),
+            BaseRows::TreeSetLength(rows) => drop_keys(rows, keys, test, steps),
+            BaseRows::LinkedHashMap(rows) => drop_keys(rows, keys, test, steps),
+            BaseRows::TreeMap(rows) => drop_keys(rows, keys, test, steps),
+            BaseRows::TreeMapReverse(rows) => drop_keys(rows, keys, test, steps),
+            BaseRows::TreeMapLength(rows) => drop_keys(rows, keys, test, steps),
+        }
+    }
+}

@@ -1,0 +1,110 @@
+//! Rows that go from a set or a map.
+ghost use Rattle.std.specs.Prelude.{◌≡◌, ◌≤◌, ◌+◌, ◌*◌, ℕ, List, Some, ◌∷◌, ◌++◌, ◌&&◌, cond, filter, is_some, length, map, not, true};
+ghost use Rattle.base_rows.specs.Journals.{items_by};
+ghost use Rattle.elem.specs.declared.elements.Elem.{Elem as Element};
+ghost use Rattle.elem.specs.Elements.{same};
+ghost use Rattle.elem.specs.Keyed.{value_at, IsPresent};
+ghost use Rattle.elem.specs.Rows.{first_key};
+ghost use Rattle.vocabulary.specs.declared.items.Item.{Item as AnItem};
+ghost use Rattle.machine.specs.Edits.{without_rows};
+ghost use Rattle.vocabulary.specs.Items.{key_of};
+ghost use Rattle.view_steps.specs.Lanes.{IsFrom};
+ghost use Rattle.view_steps.specs.Places.{key_place, IsRowAt};
+
+use super::super::placing::row_values::RowValue;
+use crate::RowTest;
+use elem::{Elem, Keyed, Steps};
+use linked_base::FreeLinkedMap;
+use std::sync::ledger::Ledger;
+use view_steps::Place;
+
+/// Removes the row at a place, which is its key.
+pub fn remove_key<V: RowValue, K: Keyed<V>, L: Ledger>(
+    rows: &mut K,
+    at: &Place,
+    steps: &mut Steps<L>,
+)
+    requires { IsFrom (map key_place (items_by V.row_of (K.rows rows.old))) (Some at.now) }
+    ensures rows { (numbers : List ℕ) → IsRowAt (items_by V.row_of (K.rows rows.old)) at.now numbers → items_by V.row_of (K.rows rows.new) ≡ without_rows numbers 0 (items_by V.row_of (K.rows rows.old)) }
+    ensures steps { steps.new ≤ steps.old + 1 }
+{
+    let _len = rows.len();
+    if let Place::Key(k) = at {
+        rows.remove(*k, steps);
+    }
+}
+
+/// Removes the row of a key where it passes a test.
+pub fn drop_key<V: RowValue, K: Keyed<V>, T: RowTest, L: Ledger>(
+    rows: &mut K,
+    k: &Elem,
+    test: &T,
+    steps: &mut Steps<L>,
+)
+    ensures rows { K.rows rows.new ≡ filter (λ row. not (same k.now row.0 && T.passes test.now (V.row_of row.0 row.1))) (K.rows rows.old) }
+    ensures steps { steps.new ≤ steps.old + 2 }
+{
+    let _len = rows.len();
+    if let Some(v) = rows.probe(*k, steps) {
+        if test.test(&V::row(*k, v)) {
+            rows.remove(*k, steps);
+        }
+    }
+}
+
+/// Removes the row of a key where it passes a test, and tells the key behind it.
+fn drop_row<V: RowValue, K: Keyed<V>, T: RowTest, L: Ledger>(
+    rows: &mut K,
+    k: &Elem,
+    test: &T,
+    steps: &mut Steps<L>,
+) -> Option<Elem>
+    requires { IsPresent (K.rows rows.old) k.now }
+    ensures next { (front rest : List (Element × V)) (v : V) → K.rows rows.old ≡ front ++ (k.now, v) ∷ rest → result ≡ first_key rest }
+    ensures rows { (front rest : List (Element × V)) (v : V) → K.rows rows.old ≡ front ++ (k.now, v) ∷ rest → K.rows rows.new ≡ front ++ cond (T.passes test.now (V.row_of k.now v)) rest ((k.now, v) ∷ rest) }
+{
+    let _len = rows.len();
+    let next = rows.after(*k, steps);
+    drop_key(rows, k, test, steps);
+    next
+}
+
+/// Removes every row that passes a test, where each of them has one of some keys.
+pub fn drop_keys<V: RowValue, K: Keyed<V>, T: RowTest, L: Ledger>(
+    rows: &mut K,
+    keys: &FreeLinkedMap<()>,
+    test: &T,
+    steps: &mut Steps<L>,
+)
+    requires { (row : AnItem) → T.passes test.now row ≡ true → is_some (value_at keys.now (key_of row)) ≡ true }
+    ensures rows { items_by V.row_of (K.rows rows.new) ≡ filter (λ row. not (T.passes test.now row)) (items_by V.row_of (K.rows rows.old)) }
+    ensures steps { steps.new ≤ steps.old + 2 * length keys.now }
+{
+    let count = keys.len();
+    let mut at = keys.first();
+    for _key in 0..count {
+        let Some(k) = at else {
+            return;
+        };
+        drop_key(rows, &k, test, steps);
+        at = keys.after(k);
+    }
+}
+
+/// Removes every row that passes a test, from the first to the last.
+pub fn drop_rows<V: RowValue, K: Keyed<V>, T: RowTest, L: Ledger>(
+    rows: &mut K,
+    test: &T,
+    steps: &mut Steps<L>,
+)
+    ensures { items_by V.row_of (K.rows rows.new) ≡ filter (λ row. not (T.passes test.now row)) (items_by V.row_of (K.rows rows.old)) }
+{
+    let count = rows.len();
+    let mut at = rows.first(steps);
+    for _row in 0..count {
+        let Some(k) = at else {
+            return;
+        };
+        at = drop_row(rows, &k, test, steps);
+    }
+}

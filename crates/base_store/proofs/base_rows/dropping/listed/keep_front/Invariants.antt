@@ -1,7 +1,0 @@
-use Rattle.std.proofs.Common.{not}
-use Rattle.std.proofs.lemmas.List.Filters.{FiltersInPlace}
-use Rattle.view_steps.specs.declared.items.Item.TheVariants.{One}
-use Rattle.base_store.proofs.base_rows.dropping.listed.keep_front.Given as goal
-
-abbrev pub invariant-loop-i : goal.invariant-loop-i
-invariant-loop-i g l = FiltersInPlace (λ x. not (g.T.RowTest.passes l.test (One x))) l.fn.rows l.rows l.kept l.i

@@ -1,5 +1,0 @@
-use Rattle.view_steps.proofs.RowLemmas.{found_law}
-use Rattle.view_steps.proofs.row_laws.found_of_rows.Goals as goal
-
-pub returns : goal.returns
-returns c = found_law

@@ -1,5 +1,0 @@
-use Rattle.view_steps.proofs.RowLemmas.{shown_law}
-use Rattle.view_steps.proofs.row_laws.shown_of_rows.Goals as goal
-
-pub returns : goal.returns
-returns c = shown_law
