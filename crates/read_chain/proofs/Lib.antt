@@ -5,3 +5,6 @@ pub mod LookUpLemmas
 pub mod FindLemmas
 pub mod ListViewLemmas
 pub mod KeyPlaceLemmas
+pub mod FirstRows
+pub mod KeptItems
+pub mod ListLookUps

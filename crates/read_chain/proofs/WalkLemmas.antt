@@ -82,7 +82,7 @@ family_shows Grouped it f h all row = absurd (cc)
 family_shows Run it f h all row = absurd (cc)
 family_shows Pieces it f h all row = absurd (cc)
 
-every_row : (v : View) → shows_all v ≡ true → (row : Item) → shows (form_of v) row ≡ true
+pub every_row : (v : View) → shows_all v ≡ true → (row : Item) → shows (form_of v) row ≡ true
 every_row (base l) h row = refl
 every_row (both word v u) h row = absurd (cc)
 every_row (over it v) h row =

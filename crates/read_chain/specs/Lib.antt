@@ -1,3 +1,4 @@
 pub mod Walks
 pub mod Reads
 pub mod Tests
+pub mod ListLookUps

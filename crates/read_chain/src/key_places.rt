@@ -1,6 +1,7 @@
-//! The place of an item by its key: one call of the base.
+//! The place of an item, by its key or as an element of a list: one call of the base.
 ghost use Rattle.std.specs.Prelude.{◌≡◌, ◌<◌, ◌≤◌, ◌+◌, length, true, IfNone, IfSome, [], option_map};
 ghost use Rattle.base_store.specs.Stored.{view_in};
+ghost use Rattle.read_chain.specs.ListLookUps as lists;
 ghost use Rattle.read_chain.specs.Reads.{shown_in, StandsAt};
 ghost use Rattle.machine.specs.CallEdits.{first_hit};
 ghost use Rattle.machine.specs.Shown.{has_key, value_shown};
@@ -10,6 +11,7 @@ ghost use Rattle.machine.specs.Views.{candidates, shape_at};
 ghost use Rattle.vocabulary.specs.declared.items.Item as spec;
 
 use crate::finding::{ItemTest, find_place, is_hit};
+use crate::list_look_ups::{is_placed_at_once, item_place};
 use crate::look_ups::{goes_by_key, look_up};
 use base_rows::RowTest;
 use base_store::{AnyRef, Store};
@@ -18,7 +20,8 @@ use std::sync::ledger::Ledger;
 use view_steps::Place;
 use vocabulary::{Item, key_of, value_of};
 
-/// The place of the first item that is the same. In a set or a set of entries it asks the base once at most.
+/// The place of the first item that is the same. In a set, in a set of entries, and in a view that makes no other items of
+/// a list and is not turned round, it asks the base once at most.
 pub fn place_of<L: Ledger>(
     store: &Store,
     n: AnyRef,
@@ -29,9 +32,12 @@ pub fn place_of<L: Ledger>(
     ensures none { IfNone result (first_hit (items.same_item item.now) (candidates store.now.world (view_in store.now n)) ≡ []) }
     ensures some { IfSome result (λ p. StandsAt store.now.world (view_in store.now n) p (first_hit (items.same_item item.now) (candidates store.now.world (view_in store.now n)))) }
     ensures step { is_keyed (shape_at store.now.world (view_in store.now n)) ≡ true → steps.new ≤ steps.old + 1 }
+    ensures at_once { lists.is_placed_at_once store.now.world (view_in store.now n) item.now ≡ true → steps.new ≤ steps.old + 1 }
 {
     if goes_by_key(store.shape(n)) {
         place_at_key(store, n, &key_of(item), &ItemTest::Same(*item), steps)
+    } else if is_placed_at_once(store, n, item) {
+        item_place(store, n, item, steps)
     } else {
         find_place(store, n, &ItemTest::Same(*item), steps)
     }

@@ -7,6 +7,7 @@
 mod finding;
 mod indexes;
 mod key_places;
+mod list_look_ups;
 mod look_ups;
 mod making;
 mod places;

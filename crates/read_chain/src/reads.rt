@@ -2,6 +2,7 @@
 ghost use Rattle.std.specs.Prelude.{◌≡◌, ◌<◌, ◌≤◌, ◌+◌, length, not, slice_get, true};
 ghost use Rattle.std.specs.List.{list_all, list_any, position};
 ghost use Rattle.base_store.specs.Stored.{view_in};
+ghost use Rattle.read_chain.specs.ListLookUps as lists;
 ghost use Rattle.read_chain.specs.Reads as reads;
 ghost use Rattle.read_chain.specs.Reads.{shown_in};
 ghost use Rattle.machine.specs.Shown as found;
@@ -12,6 +13,7 @@ ghost use Rattle.machine.specs.Views.{shape_at};
 
 use crate::finding::{ItemTest, find};
 use crate::indexes::item_index;
+use crate::list_look_ups::{is_found_at_once, is_indexed_at_once, item_index_of, shows_item};
 use crate::look_ups::{goes_by_key, shown_at_key};
 use crate::places::found_at;
 use crate::walks::Walk;
@@ -32,7 +34,7 @@ fn keeps_all(family: Family) -> bool
 }
 
 /// Whether no step of a view leaves an item out.
-fn shows_all(store: &Store, n: AnyRef) -> bool
+pub(crate) fn shows_all(store: &Store, n: AnyRef) -> bool
     requires { n < length store.now.nodes }
     ensures { result ≡ reads.shows_all (view_in store.now n) }
 {
@@ -67,17 +69,21 @@ pub fn is_empty<L: Ledger>(store: &Store, n: AnyRef, steps: &mut Steps<L>) -> bo
     first(store, n, steps).is_none()
 }
 
-/// Whether a view shows an item. A set or a set of entries asks its base once at most.
+/// Whether a view shows an item. A set, a set of entries, and a view that makes no other items of a list ask their base
+/// once at most.
 pub fn contains<L: Ledger>(store: &Store, n: AnyRef, item: &Item, steps: &mut Steps<L>) -> bool
     requires { n < length store.now.nodes }
     ensures shown { result ≡ found.is_shown (shown_in store.now n) item.now }
     ensures step { is_keyed (shape_at store.now.world (view_in store.now n)) ≡ true → steps.new ≤ steps.old + 1 }
+    ensures at_once { lists.is_found_at_once store.now.world (view_in store.now n) item.now ≡ true → steps.new ≤ steps.old + 1 }
 {
     if goes_by_key(store.shape(n)) {
         match shown_at_key(store, n, &key_of(item), steps) {
             Some(shown) => same_item(item, &shown),
             None => false,
         }
+    } else if is_found_at_once(store, n, item) {
+        shows_item(store, n, item, steps)
     } else {
         find(store, n, &ItemTest::Same(*item), steps).is_some()
     }
@@ -120,13 +126,26 @@ pub fn item_at<L: Ledger>(store: &Store, n: AnyRef, i: usize, steps: &mut Steps<
     }
 }
 
-/// The index of the first item that is the same.
+/// The index of the first item that is the same. A list that is not turned round asks its base once.
 pub fn index_of<L: Ledger>(
     store: &Store,
     n: AnyRef,
     item: &Item,
     steps: &mut Steps<L>,
 ) -> Option<usize>
+    requires { n < length store.now.nodes }
+    ensures index { result ≡ position (same_items item.now) (shown_in store.now n) }
+    ensures at_once { lists.is_indexed_at_once store.now.world (view_in store.now n) item.now ≡ true → steps.new ≤ steps.old + 1 }
+{
+    if is_indexed_at_once(store, n, item) {
+        item_index_of(store, n, item, steps)
+    } else {
+        walk_to(store, n, item, steps)
+    }
+}
+
+/// The same, by a walk over what is shown.
+fn walk_to<L: Ledger>(store: &Store, n: AnyRef, item: &Item, steps: &mut Steps<L>) -> Option<usize>
     requires { n < length store.now.nodes }
     ensures { result ≡ position (same_items item.now) (shown_in store.now n) }
 {

@@ -9,6 +9,7 @@ use Rattle.vocabulary.specs.declared.calls.OnOther.{OnOther}
 use Rattle.vocabulary.specs.declared.calls.OnPair.TheVariants.{Put, RemoveEntry}
 use Rattle.vocabulary.specs.declared.edits.Spot.{Spot}
 use Rattle.vocabulary.specs.declared.items.Item.{Item}
+use Rattle.vocabulary.specs.declared.items.Item.TheVariants.{One}
 use Rattle.vocabulary.specs.declared.refusals.Refusal.{Refusal}
 use Rattle.vocabulary.specs.declared.refusals.Refusal.TheVariants.{NoMemory}
 use Rattle.vocabulary.specs.Needs.{needs_of, needs_with}
@@ -18,6 +19,7 @@ use Rattle.machine.specs.CallRefusals.{flag_refusal, items_lifted, items_lifted_
 use Rattle.machine.specs.CallEdits.{adding_last, edit_of, edit_with, rows_for}
 use Rattle.machine.specs.Edits.{Edit, adding, removing}
 use Rattle.machine.specs.Reading.{first_refusal}
+use Rattle.read_chain.specs.ListLookUps.{is_placed_at_once}
 use Rattle.view_steps.specs.KnownViews.{edited_at, number_under}
 use Rattle.machine.specs.Bases.{World}
 use Rattle.machine.specs.Views.{View, flags_at, shape_at, shown}
@@ -35,6 +37,11 @@ is_single (call.Element RemoveKey k) = true
 is_single (call.Pair Put k w) = true
 is_single (call.Pair RemoveEntry k w) = true
 is_single other = false
+
+-- whether a call removes one item, whose place one look-up in a list tells
+abbrev pub is_removed_at_once : World → View → Call → Bool
+is_removed_at_once world v (call.Element Remove x) = is_placed_at_once world v (One x)
+is_removed_at_once world v other = false
 
 -- the answer and the bases that were defined, or the refusal, or want of memory
 abbrev pub Came : Result Answer Refusal → Stored → Stored → Answered → Type 0

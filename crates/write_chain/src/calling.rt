@@ -12,8 +12,9 @@ ghost use Rattle.vocabulary.specs.Steps as table;
 ghost use Rattle.machine.specs.Views.{flags_at, shape_at};
 ghost use Rattle.vocabulary.specs.declared.calls.Call.TheVariants as calls;
 ghost use Rattle.vocabulary.specs.declared.refusals.Refusal.TheVariants.{NoMemory};
+ghost use Rattle.read_chain.specs.ListLookUps.{is_asked_at_once};
 ghost use Rattle.read_chain.specs.Reads.{is_look_up};
-ghost use Rattle.write_chain.specs.Calls.{Came, answered_known, answered_known_with, is_single};
+ghost use Rattle.write_chain.specs.Calls.{Came, answered_known, answered_known_with, is_removed_at_once, is_single};
 ghost use Rattle.machine.specs.Memory.{adds_rows, wants_memory, wants_memory_with};
 
 use crate::clearing::clear;
@@ -51,6 +52,8 @@ pub fn call<L: Ledger>(
     ensures changes { (most : ℕ) → ChangesUpTo most store.old.world → ChangesUpTo (most + 1) store.new.world }
     ensures steps { is_single call.now ≡ true → is_keyed (shape_at store.old.world (view_in store.old n)) ≡ true → steps.new ≤ steps.old + 4 }
     ensures looks_up { is_look_up call.now ≡ true → is_keyed (shape_at store.old.world (view_in store.old n)) ≡ true → steps.new ≤ steps.old + 1 }
+    ensures at_once { is_asked_at_once store.old.world (view_in store.old n) call.now ≡ true → steps.new ≤ steps.old + 1 }
+    ensures removes_at_once { is_removed_at_once store.old.world (view_in store.old n) call.now ≡ true → steps.new ≤ steps.old + 2 }
 {
     let _base = store.base_of(n);
     let flags = store.flags_of(n);
@@ -76,6 +79,8 @@ fn carry_out<L: Ledger>(
     ensures memory { result ≡ Err NoMemory → adds_rows store.old.world (answered_known store.old.world (view_in store.old n) call.now) ≡ true }
     ensures steps { is_single call.now ≡ true → is_keyed (shape_at store.old.world (view_in store.old n)) ≡ true → steps.new ≤ steps.old + 4 }
     ensures looks_up { is_look_up call.now ≡ true → is_keyed (shape_at store.old.world (view_in store.old n)) ≡ true → steps.new ≤ steps.old + 1 }
+    ensures at_once { is_asked_at_once store.old.world (view_in store.old n) call.now ≡ true → steps.new ≤ steps.old + 1 }
+    ensures removes_at_once { is_removed_at_once store.old.world (view_in store.old n) call.now ≡ true → steps.new ≤ steps.old + 2 }
 {
     match call {
         Call::Ask(word) => on_ask(store, n, *word, steps),
@@ -124,6 +129,8 @@ fn on_element<L: Ledger>(
     ensures memory { result ≡ Err NoMemory → adds_rows store.old.world (answered_known store.old.world (view_in store.old n) (calls.Element word x.now)) ≡ true }
     ensures steps { is_single (calls.Element word x.now) ≡ true → is_keyed (shape_at store.old.world (view_in store.old n)) ≡ true → steps.new ≤ steps.old + 4 }
     ensures looks_up { is_look_up (calls.Element word x.now) ≡ true → is_keyed (shape_at store.old.world (view_in store.old n)) ≡ true → steps.new ≤ steps.old + 1 }
+    ensures at_once { is_asked_at_once store.old.world (view_in store.old n) (calls.Element word x.now) ≡ true → steps.new ≤ steps.old + 1 }
+    ensures removes_at_once { is_removed_at_once store.old.world (view_in store.old n) (calls.Element word x.now) ≡ true → steps.new ≤ steps.old + 2 }
 {
     match word {
         OnElement::Add => add(store, n, x, steps),

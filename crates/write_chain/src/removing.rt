@@ -7,6 +7,7 @@ ghost use Rattle.vocabulary.specs.Items.{same_item};
 ghost use Rattle.machine.specs.RowCounts.{ChangesUpTo};
 ghost use Rattle.vocabulary.specs.Shapes.{is_keyed, is_list};
 ghost use Rattle.machine.specs.Views.{candidates, flags_at, shape_at, shown};
+ghost use Rattle.read_chain.specs.ListLookUps.{is_placed_at_once};
 ghost use Rattle.vocabulary.specs.declared.answers.Answer.TheVariants as answers;
 ghost use Rattle.vocabulary.specs.declared.calls.Call.TheVariants as calls;
 ghost use Rattle.vocabulary.specs.declared.calls.OnIndex.TheVariants as on_index;
@@ -30,6 +31,7 @@ pub(crate) fn remove_item<L: Ledger>(
     requires change { ChangesUpTo (2 ^ 63 - 1) store.old.world }
     ensures came { Came (Ok result) store.old store.new (removed store.old.world (view_in store.old n) (first_hit (same_item item.now) (candidates store.old.world (view_in store.old n))) (answers.Truth (spec.is_shown (shown store.old.world (view_in store.old n)) item.now))) }
     ensures steps { is_keyed (shape_at store.old.world (view_in store.old n)) ≡ true → steps.new ≤ steps.old + 2 }
+    ensures at_once { is_placed_at_once store.old.world (view_in store.old n) item.now ≡ true → steps.new ≤ steps.old + 2 }
 {
     let b = store.base_of(n);
     let _left = store.rows_left();

@@ -1,11 +1,14 @@
 //! Reading the rows of a base by their places.
 ghost use Rattle.std.specs.Prelude.{◌≡◌, ◌≤◌, ◌+◌, Some, true};
+ghost use Rattle.std.specs.List.{position};
 ghost use Rattle.base_rows.specs.BaseRows.{base_line, kind_of, plain, rows_of};
 ghost use Rattle.base_rows.specs.KeyLines.{key_line, keys_in, IsKeyFrom, KeyFollows};
 ghost use Rattle.vocabulary.specs.Kinds.{shape_of_kind};
 ghost use Rattle.view_steps.specs.Lanes.{Follows, IsFrom, Serves};
 ghost use Rattle.view_steps.specs.Places as spec;
-ghost use Rattle.vocabulary.specs.Shapes.{is_keyed};
+ghost use Rattle.vocabulary.specs.Items.{same_item};
+ghost use Rattle.vocabulary.specs.Shapes.{is_keyed, is_list};
+ghost use Rattle.vocabulary.specs.declared.items.Item.TheVariants.{One};
 ghost use Rattle.view_steps.specs.declared.places.Place.TheVariants as place;
 
 mod indexes;
@@ -13,7 +16,7 @@ mod keys;
 
 use super::BaseRows;
 use elem::{Elem, Steps};
-use indexes::{index_at, item_at, next_index, place_of_index};
+use indexes::{index_at, index_of_item, item_at, next_index, place_of_index};
 use keys::{entry_of_key, key_at, member_of_key, next_in_lane, next_sorted, place_of_key};
 use std::sync::ledger::Ledger;
 use view_steps::{Lane, Place};
@@ -101,6 +104,18 @@ impl BaseRows {
             BaseRows::TreeMap(rows) => entry_of_key(rows, k, steps),
             BaseRows::TreeMapReverse(rows) => entry_of_key(rows, k, steps),
             BaseRows::TreeMapLength(rows) => entry_of_key(rows, k, steps),
+        }
+    }
+
+    /// The index of the first row of a list that is the same as an element.
+    pub fn find_item<L: Ledger>(&self, x: &Elem, steps: &mut Steps<L>) -> Option<usize>
+        requires { is_list (shape_of_kind (kind_of self.now)) ≡ true }
+        ensures index { result ≡ position (same_item (One x.now)) (rows_of self.now) }
+        ensures step { steps.new ≤ steps.old + 1 }
+    {
+        match self {
+            BaseRows::ArrayList(rows) => index_of_item(rows, x, steps),
+            _ => None,
         }
     }
 }

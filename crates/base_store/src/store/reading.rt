@@ -1,9 +1,12 @@
 //! Reading the bases of a store by their places.
 ghost use Rattle.std.specs.Prelude.{◌≡◌, ◌<◌, ◌≤◌, ◌+◌, Some, length, true};
+ghost use Rattle.std.specs.List.{position};
+ghost use Rattle.vocabulary.specs.Items.{same_item};
 ghost use Rattle.vocabulary.specs.Kinds.{shape_of_kind};
 ghost use Rattle.view_steps.specs.Lanes.{Follows, IsFrom, Serves, line};
 ghost use Rattle.view_steps.specs.Places as spec;
-ghost use Rattle.vocabulary.specs.Shapes.{is_keyed};
+ghost use Rattle.vocabulary.specs.Shapes.{is_keyed, is_list};
+ghost use Rattle.vocabulary.specs.declared.items.Item.TheVariants.{One};
 ghost use Rattle.machine.specs.Views.{base};
 ghost use Rattle.machine.specs.Leaves.{stored};
 ghost use Rattle.machine.specs.Bases.{base_at};
@@ -55,5 +58,15 @@ impl Store {
         ensures step { steps.new ≤ steps.old + 1 }
     {
         self.slots[b.number()].rows.row_of_key(k, steps)
+    }
+
+    /// The index of the first row of a base that is the same as an element. The base is a list.
+    pub fn find_item<L: Ledger>(&self, b: BaseId, x: &Elem, steps: &mut Steps<L>) -> Option<usize>
+        requires base { b < length self.now.world }
+        requires list { is_list (shape_of_kind (base_at self.now.world b).kind) ≡ true }
+        ensures index { result ≡ position (same_item (One x.now)) (base_at self.now.world b).rows }
+        ensures step { steps.new ≤ steps.old + 1 }
+    {
+        self.slots[b.number()].rows.find_item(x, steps)
     }
 }

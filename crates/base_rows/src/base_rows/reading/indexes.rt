@@ -1,14 +1,17 @@
 //! The indexes of a list, one after another, and items by their indexes.
 ghost use Rattle.std.specs.Prelude.{◌≡◌, ◌≤◌, ◌+◌, List, length, slice_get, option_and_then, option_map};
+ghost use Rattle.std.specs.List.{position};
 ghost use Rattle.base_rows.specs.BaseRows.{items};
 ghost use Rattle.base_rows.specs.KeyLines as spec;
 ghost use Rattle.view_steps.specs.Lanes.{Follows, IsFrom};
 ghost use Rattle.view_laws.specs.Lanes.{turned_if};
 ghost use Rattle.view_steps.specs.Places.{numbered, row_at};
+ghost use Rattle.vocabulary.specs.Items.{same_item};
 ghost use Rattle.vocabulary.specs.declared.items.Item.{Item as AnItem};
+ghost use Rattle.vocabulary.specs.declared.items.Item.TheVariants.{One};
 ghost use Rattle.view_steps.specs.declared.places.Place.TheVariants as place;
 
-use elem::Steps;
+use elem::{Elem, Steps};
 use plain_base::ArrayRows;
 use std::sync::ledger::Ledger;
 use view_steps::Place;
@@ -76,4 +79,12 @@ pub fn item_at<L: Ledger>(rows: &ArrayRows, i: usize, steps: &mut Steps<L>) -> O
         Some(x) => Some(Item::One(x)),
         None => None,
     }
+}
+
+/// The index of the first item that is the same as an element.
+pub fn index_of_item<L: Ledger>(rows: &ArrayRows, x: &Elem, steps: &mut Steps<L>) -> Option<usize>
+    ensures index { result ≡ position (same_item (One x.now)) (items rows.now) }
+    ensures step { steps.new ≤ steps.old + 1 }
+{
+    rows.find(*x, steps)
 }

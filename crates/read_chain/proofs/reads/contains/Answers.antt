@@ -18,7 +18,7 @@ returns-in-None-clause-shown g c =
     let items = shown_in c.args.store.now c.args.n in
     sym (shown_at c.args.item.now items None (subst (λ (k : Elem). filter (has_key k) items ≡ option_to_list None) c.key_of.ensures c.in-None.ensures.item))
 
-pub returns-else-goes_by_key-clause-shown : goal.returns-else-goes_by_key-clause-shown
-returns-else-goes_by_key-clause-shown g c =
+pub returns-else-is_found_at_once-clause-shown : goal.returns-else-is_found_at_once-clause-shown
+returns-else-is_found_at_once-clause-shown g c =
     let items = shown_in c.args.store.now c.args.n in
     c.is_some.ensures ∙ sym (any_found (same_item c.args.item.now) items ∙ ap is_some (sym c.find.ensures))

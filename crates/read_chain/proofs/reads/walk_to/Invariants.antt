@@ -3,7 +3,7 @@ use Rattle.std.specs.List.{position_or_len}
 use Rattle.read_chain.specs.Reads.{shown_in}
 use Rattle.read_chain.specs.Walks.{IsWalk, to_come}
 use Rattle.vocabulary.specs.Items.{same_item}
-use Rattle.read_chain.proofs.reads.index_of.Given as goal
+use Rattle.read_chain.proofs.reads.walk_to.Given as goal
 
 abbrev pub invariant-loop-shown : goal.invariant-loop-shown
 invariant-loop-shown g l = record {

@@ -1,7 +1,7 @@
 use Rattle.std.proofs.Common.{ap, arith, length}
 use Rattle.base_store.specs.Stored.{view_in}
 use Rattle.read_chain.proofs.UnderLemmas.{few_items}
-use Rattle.read_chain.proofs.reads.index_of.Goals as goal
+use Rattle.read_chain.proofs.reads.walk_to.Goals as goal
 
 pub overflow_add-passed : goal.overflow_add-passed
 overflow_add-passed g c =
