@@ -12,3 +12,4 @@ pub mod HeldRows
 pub mod MovingLemmas
 pub mod MovedRows
 pub mod RowNumbers
+pub mod WholeRows

@@ -1,5 +1,5 @@
 -- A row put last: its node goes out of the thread and comes in again at the end.
-use Rattle.std.proofs.Common.{◌≡◌, ◌≢◌, ℕ, ◌+◌, ◌-◌, Bool, true, false, cond, List, [], ◌∷◌, ◌++◌, length, Option, Some, None, refl, sym, ap, ◌∙◌, subst, arith, length-append, append-nil}
+use Rattle.std.proofs.Common.{◌≡◌, ℕ, ◌+◌, ◌-◌, Bool, true, false, cond, List, [], ◌∷◌, ◌++◌, length, Option, Some, None, refl, sym, ap, ◌∙◌, subst, arith, length-append, append-nil}
 use Rattle.std.specs.List.{IsDistinct}
 use Rattle.std.specs.Map.{lookup, remove_entry, keys_of}
 use Rattle.std.specs.HashMap.{HashMap, hash_map_len}
@@ -14,7 +14,7 @@ use Rattle.linked_base.specs.declared.links.Ends.{Ends}
 use Rattle.linked_base.specs.declared.row_nodes.Node.{Node}
 use Rattle.linked_base.specs.Thread.{head_or, Avoids, IsThread, links_at, KeepsRest}
 use Rattle.linked_base.specs.Places.{rows_of, IsIndexed}
-use Rattle.linked_base.specs.LinkedMap.{links, row_at, IsRowsOf}
+use Rattle.linked_base.specs.LinkedMap.{links, row_at}
 use Rattle.linked_base.proofs.ThreadLemmas.{apart_without}
 use Rattle.linked_base.proofs.PlacesLemmas.{There, there_both, rows-append, rows_at, rows_kept}
 use Rattle.linked_base.proofs.LinkedMapLemmas.{all_there, row_kept, row_found}

@@ -5,7 +5,7 @@ use Rattle.std.proofs.lemmas.List.Elements.{filter-append}
 use Rattle.linked_base.specs.Thread.{head_or, last_or}
 use Rattle.linked_base.proofs.ThreadLemmas.{last_or-append}
 
-split_head : (vs : List ℕ) (p : ℕ) → head_or None vs ≡ Some p → (ws : List ℕ) × (vs ≡ p ∷ ws)
+pub split_head : (vs : List ℕ) (p : ℕ) → head_or None vs ≡ Some p → (ws : List ℕ) × (vs ≡ p ∷ ws)
 split_head [] p e = absurd (cc)
 split_head (q ∷ vs) p e = let equal : q ≡ p = cc in (vs, ap (λ x. x ∷ vs) equal)
 

@@ -1,4 +1,5 @@
-ghost use Rattle.std.specs.Prelude.{◌≡◌, ◌⊎◌, List, [], ◌∷◌, ◌++◌, length, slice_get, Some, OnOk, OnErr, IfOk};
+ghost use Rattle.std.specs.Prelude.{◌≡◌, ◌⊎◌, cond, is_some, List, [], ◌∷◌, ◌++◌, length, slice_get, None, Some, OnOk, OnErr, IfOk, IfSome};
+ghost use Rattle.std.specs.Option.{option_map};
 ghost use Rattle.elem.specs.declared.elements.Elem.{Elem as Key};
 ghost use Rattle.elem.specs.Elements.{same};
 ghost use Rattle.elem.specs.Rows.{first_key, last_key, key_after, key_before, set_row};
@@ -7,7 +8,7 @@ ghost use Rattle.linked_base.specs.Moving.{put_before};
 
 use crate::links::Ends;
 use crate::row_nodes::{
-    AllRows, Node, key_at, new_node, place_of, take_place, write_place, write_row,
+    AllRows, Node, key_at, new_node, place_of, row_at_place, take_place, write_place, write_row,
 };
 use crate::thread::{link_before, nth, unlink};
 use elem::{Elem, NoMemory};
@@ -111,6 +112,42 @@ impl<V: Copy> FreeLinkedMap<V> {
         key_at(&self.nodes, self.nodes[place].links.previous)
     }
 
+    /// The first row.
+    pub fn first_row(&self) -> Option<(Elem, V)>
+        ensures key { option_map (λ row. row.0) result ≡ first_key self.now }
+        ensures value { IfSome result (λ row. value_at self.now row.0 ≡ Some row.1) }
+    {
+        row_at_place(&self.nodes, self.ends.first)
+    }
+
+    /// The last row.
+    pub fn last_row(&self) -> Option<(Elem, V)>
+        ensures key { option_map (λ row. row.0) result ≡ last_key self.now }
+        ensures value { IfSome result (λ row. value_at self.now row.0 ≡ Some row.1) }
+    {
+        row_at_place(&self.nodes, self.ends.last)
+    }
+
+    /// The row after that of `k`.
+    pub fn row_after(&self, k: Elem) -> Option<(Elem, V)>
+        requires { IsPresent self.now k }
+        ensures key { option_map (λ row. row.0) result ≡ key_after (same k) self.now }
+        ensures value { IfSome result (λ row. value_at self.now row.0 ≡ Some row.1) }
+    {
+        let place = self.index[&k];
+        row_at_place(&self.nodes, self.nodes[place].links.next)
+    }
+
+    /// The row before that of `k`.
+    pub fn row_before(&self, k: Elem) -> Option<(Elem, V)>
+        requires { IsPresent self.now k }
+        ensures key { option_map (λ row. row.0) result ≡ key_before (same k) self.now }
+        ensures value { IfSome result (λ row. value_at self.now row.0 ≡ Some row.1) }
+    {
+        let place = self.index[&k];
+        row_at_place(&self.nodes, self.nodes[place].links.previous)
+    }
+
     /// Adds a row, last.
     pub fn insert(&mut self, k: Elem, v: V) -> Result<(), NoMemory>
         requires { IsAbsent self.old k }
@@ -140,6 +177,23 @@ impl<V: Copy> FreeLinkedMap<V> {
         let before = self.nodes[place].value;
         write_row(&mut self.nodes, place, &k, v);
         before
+    }
+
+    /// Gives a key a value, in the place of its row or in a new row, last. It tells the value before, and takes memory
+    /// only for a new key.
+    pub fn put(&mut self, k: Elem, v: V) -> Result<Option<V>, NoMemory>
+        ensures before { IfOk result (λ before. before ≡ value_at self.old k) }
+        ensures rows { OnOk result (self.new ≡ cond (is_some (value_at self.old k)) (with_value self.old k v) (self.old ++ (k, v) ∷ [])) }
+        ensures err { OnErr result (self.new ≡ self.old) }
+        ensures memory { OnErr result (value_at self.old k ≡ None) }
+    {
+        let Some(found) = place_of(&self.index, &Some(k)) else {
+            self.insert(k, v)?;
+            return Ok(None);
+        };
+        let before = self.nodes[found].value;
+        write_row(&mut self.nodes, found, &k, v);
+        Ok(Some(before))
     }
 
     /// Removes the row of a key, and tells its value.

@@ -1,7 +1,8 @@
-ghost use Rattle.std.specs.Prelude.{◌≡◌, ◌⊎◌, ◌+◌, [], OnOk, OnErr, IfOk};
+ghost use Rattle.std.specs.Prelude.{◌≡◌, ◌⊎◌, ◌+◌, cond, is_some, [], ◌∷◌, ◌++◌, None, Some, OnOk, OnErr, IfOk, IfSome};
+ghost use Rattle.std.specs.Option.{option_map};
 ghost use Rattle.elem.specs.Elements.{same};
-ghost use Rattle.elem.specs.Rows.{set_row};
-ghost use Rattle.elem.specs.Keyed.{IsPresent, IsAbsent};
+ghost use Rattle.elem.specs.Rows.{first_key, last_key, key_after, key_before, set_row};
+ghost use Rattle.elem.specs.Keyed.{value_at, IsPresent, IsAbsent, with_value};
 
 use crate::FreeLinkedMap;
 use elem::{Elem, Keyed, NoMemory, Steps};
@@ -36,6 +37,66 @@ impl<V: Copy> LinkedMap<V> {
         Ok(LinkedMap {
             free: FreeLinkedMap::new(alloc),
         })
+    }
+
+    /// The first row.
+    pub fn first_row<L: Ledger>(&self, steps: &mut Steps<L>) -> Option<(Elem, V)>
+        ensures key { option_map (λ row. row.0) result ≡ first_key self.now }
+        ensures value { IfSome result (λ row. value_at self.now row.0 ≡ Some row.1) }
+        ensures step { steps.new ≡ steps.old + 1 }
+    {
+        steps.tick();
+        self.free.first_row()
+    }
+
+    /// The last row.
+    pub fn last_row<L: Ledger>(&self, steps: &mut Steps<L>) -> Option<(Elem, V)>
+        ensures key { option_map (λ row. row.0) result ≡ last_key self.now }
+        ensures value { IfSome result (λ row. value_at self.now row.0 ≡ Some row.1) }
+        ensures step { steps.new ≡ steps.old + 1 }
+    {
+        steps.tick();
+        self.free.last_row()
+    }
+
+    /// The row after that of `k`.
+    pub fn row_after<L: Ledger>(&self, k: Elem, steps: &mut Steps<L>) -> Option<(Elem, V)>
+        requires { IsPresent self.now k }
+        ensures key { option_map (λ row. row.0) result ≡ key_after (same k) self.now }
+        ensures value { IfSome result (λ row. value_at self.now row.0 ≡ Some row.1) }
+        ensures step { steps.new ≡ steps.old + 1 }
+    {
+        steps.tick();
+        self.free.row_after(k)
+    }
+
+    /// The row before that of `k`.
+    pub fn row_before<L: Ledger>(&self, k: Elem, steps: &mut Steps<L>) -> Option<(Elem, V)>
+        requires { IsPresent self.now k }
+        ensures key { option_map (λ row. row.0) result ≡ key_before (same k) self.now }
+        ensures value { IfSome result (λ row. value_at self.now row.0 ≡ Some row.1) }
+        ensures step { steps.new ≡ steps.old + 1 }
+    {
+        steps.tick();
+        self.free.row_before(k)
+    }
+
+    /// Gives a key a value, in the place of its row or in a new row, last. It tells the value before, and takes memory
+    /// only for a new key.
+    pub fn put<L: Ledger>(
+        &mut self,
+        k: Elem,
+        v: V,
+        steps: &mut Steps<L>,
+    ) -> Result<Option<V>, NoMemory>
+        ensures before { IfOk result (λ before. before ≡ value_at self.old k) }
+        ensures rows { OnOk result (self.new ≡ cond (is_some (value_at self.old k)) (with_value self.old k v) (self.old ++ (k, v) ∷ [])) }
+        ensures err { OnErr result (self.new ≡ self.old) }
+        ensures memory { OnErr result (value_at self.old k ≡ None) }
+        ensures step { steps.new ≡ steps.old + 1 }
+    {
+        steps.tick();
+        self.free.put(k, v)
     }
 
     /// Puts the row of `new` and `v` in the place of the row of `old`.

@@ -7,7 +7,7 @@ ghost use Rattle.slab.specs.Slab.{ContainsKey};
 ghost use Rattle.elem.specs.declared.elements.Elem.{Elem as Key};
 ghost use Rattle.elem.specs.Elements.{same};
 ghost use Rattle.linked_base.specs.Thread.{Rewrites};
-ghost use Rattle.linked_base.specs.LinkedMap.{key_of};
+ghost use Rattle.linked_base.specs.LinkedMap.{key_of, row_at};
 
 use crate::links::{Links, Threaded};
 use elem::Elem;
@@ -67,6 +67,20 @@ pub fn key_at<V: Copy>(nodes: &Slab<Node<V>>, place: Option<usize>) -> Option<El
     match place {
         None => None,
         Some(place) => Some(nodes[place].key),
+    }
+}
+
+/// The row of the node at a place.
+pub fn row_at_place<V: Copy>(nodes: &Slab<Node<V>>, place: Option<usize>) -> Option<(Elem, V)>
+    requires { (p : ℕ) → place ≡ Some p → ContainsKey nodes.now p }
+    ensures { result ≡ option_and_then (row_at nodes.now) place }
+{
+    match place {
+        None => None,
+        Some(place) => {
+            let node = &nodes[place];
+            Some((node.key, node.value))
+        }
     }
 }
 

@@ -68,6 +68,28 @@ fn ends<L: Ledger>(
     Ok((first, last, len, m.len()))
 }
 
+/// The first row and the last of 1 to 4 after 1 was put again, and the rows after 2 and before it.
+fn whole_rows<L: Ledger>(alloc: Global, blank: Blank) -> Result<[Option<(Elem, u32)>; 4], NoMemory>
+    requires name { blank.name ≡ L.name }
+    requires parts { blank.parts ≡ L.parts }
+    requires some { 0 < blank.parts }
+{
+    let mut steps = Steps::<L>::new(blank);
+    let mut m = LinkedMap::new(alloc)?;
+    for number in 1..5u8 {
+        m.put(Elem::Int(number as i64), number as u32 * 10, &mut steps)?;
+    }
+    let one = m.put(Elem::Int(1), 11, &mut steps)?;
+    let first = m.first_row(&mut steps);
+    let last = m.last_row(&mut steps);
+    if one == Some(10) && m.probe(Elem::Int(2), &mut steps).is_some() {
+        let after = m.row_after(Elem::Int(2), &mut steps);
+        let before = m.row_before(Elem::Int(2), &mut steps);
+        return Ok([first, last, after, before]);
+    }
+    Ok([None; 4])
+}
+
 fn set_len(alloc: Global) -> Result<usize, NoMemory> {
     let set: LinkedSet = LinkedSet::new(alloc)?;
     Ok(set.len())
@@ -94,5 +116,17 @@ fn ends_and_numbers(rt: HostRuntime) -> Result<(), Fail> {
     assert_eq!(rt; len, 3);
     assert_eq!(rt; cleared, 0);
     assert_eq!(rt; set_len(rt.alloc()).ok(), Some(0));
+    Ok(())
+}
+
+#[test]
+fn rows_come_with_their_values(rt: HostRuntime) -> Result<(), Fail> {
+    let rows = whole_rows::<Brand>(rt.alloc(), Blank::new(1))
+        .ok()
+        .ok_or("memory")?;
+    assert_eq!(rt; rows[0], Some((Elem::Int(1), 11)));
+    assert_eq!(rt; rows[1], Some((Elem::Int(4), 40)));
+    assert_eq!(rt; rows[2], Some((Elem::Int(3), 30)));
+    assert_eq!(rt; rows[3], Some((Elem::Int(1), 11)));
     Ok(())
 }

@@ -2,6 +2,7 @@ pub mod OrderLemmas
 pub mod SortedLemmas
 pub mod WindowLemmas
 pub mod SortedCuts
+pub mod PutRows
 pub mod GroupsLemmas
 pub mod TwoKeysLemmas
 pub mod BothOrder
@@ -9,3 +10,4 @@ pub mod Results
 pub mod Settling
 pub mod Having
 pub mod SameKeys
+pub mod WholeRows

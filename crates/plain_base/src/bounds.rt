@@ -1,7 +1,9 @@
-//! The ends of the part of a tree between two bounds.
-ghost use Rattle.std.specs.Prelude.{◌≡◌};
+//! The first and the last row of the part of a tree between two bounds.
+ghost use Rattle.std.specs.Prelude.{◌≡◌, Some, IfSome};
+ghost use Rattle.std.specs.Option.{option_map};
 ghost use Rattle.std.specs.Bound.{IsForward};
 ghost use Rattle.std.specs.BTreeMap.Range.{IsLeBy, IsLtBy, entries_between};
+ghost use Rattle.elem.specs.Keyed.{value_at};
 ghost use Rattle.elem.specs.Rows.{first_key, last_key};
 ghost use Rattle.plain_base.specs.Ordered.{order_of};
 ghost use Rattle.plain_base.specs.Sorted.{IsInOrder, lower_bound, upper_bound};
@@ -33,6 +35,23 @@ pub(crate) fn upper_bound<C: Compare>(cut: &Cut) -> Bound<Ranked<C>>
     }
 }
 
+/// The first row between two bounds, its value where it stands.
+pub(crate) fn first_entry_between<V, C: Compare>(
+    rows: &BTreeMap<Ranked<C>, V>,
+    from: Bound<Ranked<C>>,
+    to: Bound<Ranked<C>>,
+) -> Option<(Elem, &V)>
+    requires { IsForward (IsLeBy (order_of C.before)) (IsLtBy (order_of C.before)) from to }
+    ensures key { option_map (λ row. row.0) result ≡ first_key (entries_between (order_of C.before) from to rows.now.entries) }
+    ensures value { IfSome result (λ row. value_at rows.now.entries row.0 ≡ Some row.1.now) }
+    ensures order { IsInOrder C.before rows.now.entries }
+{
+    match rows.range((from, to)).next() {
+        Some((key, value)) => Some((key.elem(), value)),
+        None => None,
+    }
+}
+
 /// The first key between two bounds.
 pub(crate) fn first_between<V, C: Compare>(
     rows: &BTreeMap<Ranked<C>, V>,
@@ -43,8 +62,25 @@ pub(crate) fn first_between<V, C: Compare>(
     ensures key { result ≡ first_key (entries_between (order_of C.before) from to rows.now.entries) }
     ensures order { IsInOrder C.before rows.now.entries }
 {
-    match rows.range((from, to)).next() {
-        Some((key, _)) => Some(key.elem()),
+    match first_entry_between(rows, from, to) {
+        Some((key, _)) => Some(key),
+        None => None,
+    }
+}
+
+/// The last row between two bounds, its value where it stands.
+pub(crate) fn last_entry_between<V, C: Compare>(
+    rows: &BTreeMap<Ranked<C>, V>,
+    from: Bound<Ranked<C>>,
+    to: Bound<Ranked<C>>,
+) -> Option<(Elem, &V)>
+    requires { IsForward (IsLeBy (order_of C.before)) (IsLtBy (order_of C.before)) from to }
+    ensures key { option_map (λ row. row.0) result ≡ last_key (entries_between (order_of C.before) from to rows.now.entries) }
+    ensures value { IfSome result (λ row. value_at rows.now.entries row.0 ≡ Some row.1.now) }
+    ensures order { IsInOrder C.before rows.now.entries }
+{
+    match rows.range((from, to)).next_back() {
+        Some((key, value)) => Some((key.elem(), value)),
         None => None,
     }
 }
@@ -59,8 +95,8 @@ pub(crate) fn last_between<V, C: Compare>(
     ensures key { result ≡ last_key (entries_between (order_of C.before) from to rows.now.entries) }
     ensures order { IsInOrder C.before rows.now.entries }
 {
-    match rows.range((from, to)).next_back() {
-        Some((key, _)) => Some(key.elem()),
+    match last_entry_between(rows, from, to) {
+        Some((key, _)) => Some(key),
         None => None,
     }
 }

@@ -1,4 +1,4 @@
-ghost use Rattle.std.specs.Prelude.{◌≡◌, length, true, [], Some, OnOk, OnErr, is_some, slice_get};
+ghost use Rattle.std.specs.Prelude.{◌≡◌, cond, length, true, [], None, Some, OnOk, OnErr, IfOk, is_some, slice_get};
 ghost use Rattle.std.specs.Map.{keys_of};
 ghost use Rattle.std.specs.Option.{option_copied};
 ghost use Rattle.elem.specs.Cuts.{cut_upto};
@@ -8,6 +8,7 @@ ghost use Rattle.elem.specs.Rows.{first_key, last_key, key_after, key_before};
 ghost use Rattle.plain_base.specs.Sorted.{IsInOrder, placed, rows_above, rows_below, rows_between};
 
 mod nested;
+mod whole_rows;
 
 use crate::bounds::{first_between, last_between, lower_bound, upper_bound};
 use crate::ranked::Ranked;
@@ -190,6 +191,20 @@ impl<V: Drop, C: Compare> FreeTreeMapRows<V, C> {
         match self.rows.get_mut(&Ranked::new(k)) {
             Some(place) => mem::replace(place, v),
             None => v,
+        }
+    }
+
+    /// Gives a key a value, in its row or in a new row in the order. It tells the value before, and takes memory only
+    /// for a new key.
+    pub fn put(&mut self, k: Elem, v: V) -> Result<Option<V>, NoMemory>
+        ensures before { IfOk result (λ before. before ≡ value_at self.old k) }
+        ensures rows { OnOk result (self.new ≡ cond (is_some (value_at self.old k)) (with_value self.old k v) (placed C.before self.old k v)) }
+        ensures err { OnErr result (self.new ≡ self.old) }
+        ensures memory { OnErr result (value_at self.old k ≡ None) }
+    {
+        match self.rows.insert(Ranked::new(k), v) {
+            Ok(before) => Ok(before),
+            Err(_) => Err(NoMemory),
         }
     }
 

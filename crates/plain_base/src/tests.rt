@@ -86,6 +86,47 @@ fn turned_round<L: Ledger, R: Abort>(
     Ok(())
 }
 
+fn rows_turned_round<L: Ledger, R: Abort>(
+    rt: &R,
+    alloc: Global,
+    blank: Blank,
+) -> Result<(), std::test::Fail>
+    requires name { blank.name ≡ L.name }
+    requires parts { blank.parts ≡ L.parts }
+    requires some { 0 < blank.parts }
+{
+    let mut steps: Steps<L> = Steps::new(blank);
+    let mut rows: TreeMapRows<u32, Reverse> = TreeMapRows::new(alloc);
+    for number in 1..4u8 {
+        let before = rows.put(Elem::Int(number as i64), number as u32 * 10, &mut steps);
+        assert!(rt; before.is_ok_and(|before| before.is_none()));
+    }
+    assert!(rt;
+        rows.put(Elem::Int(2), 21, &mut steps)
+            .is_ok_and(|before| before == Some(20))
+    );
+    assert!(rt; rows.first_row(&mut steps) == Some((Elem::Int(3), 30)));
+    assert!(rt; rows.last_row(&mut steps) == Some((Elem::Int(1), 10)));
+    let window = Window {
+        lo: Cut::Above(Elem::Int(3)),
+        hi: Cut::Below(Elem::Int(1)),
+    };
+    assert!(rt; !window.hi.is_before::<Reverse>(&window.lo));
+    assert!(rt; rows.first_row_in(&window, &mut steps) == Some((Elem::Int(2), 21)));
+    assert!(rt; rows.last_row_in(&window, &mut steps) == Some((Elem::Int(2), 21)));
+    if rows.probe(Elem::Int(2), &mut steps).is_some() {
+        assert!(rt; rows.row_after(Elem::Int(2), &mut steps) == Some((Elem::Int(1), 10)));
+        assert!(rt; rows.row_before(Elem::Int(2), &mut steps) == Some((Elem::Int(3), 30)));
+    }
+    Ok(())
+}
+
+#[test]
+fn rows_come_with_their_values(rt: HostRuntime) -> Result<(), std::test::Fail> {
+    let alloc = rt.alloc();
+    rows_turned_round::<Brand, HostRuntime>(&rt, alloc, Blank::new(1))
+}
+
 #[test]
 fn a_tree_goes_in_its_own_order(rt: HostRuntime) -> Result<(), std::test::Fail> {
     let alloc = rt.alloc();

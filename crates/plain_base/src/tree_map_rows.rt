@@ -1,7 +1,9 @@
-ghost use Rattle.std.specs.Prelude.{◌≡◌, ◌+◌, length, true, []};
+ghost use Rattle.std.specs.Prelude.{◌≡◌, ◌+◌, cond, is_some, length, true, [], None, Some, OnOk, OnErr, IfOk, IfSome};
+ghost use Rattle.std.specs.Option.{option_map};
 ghost use Rattle.elem.specs.Cuts.{cut_upto};
-ghost use Rattle.elem.specs.Keyed.{HasDistinctKeys};
-ghost use Rattle.elem.specs.Rows.{first_key, last_key};
+ghost use Rattle.elem.specs.Elements.{same};
+ghost use Rattle.elem.specs.Keyed.{value_at, HasDistinctKeys, IsPresent, with_value};
+ghost use Rattle.elem.specs.Rows.{first_key, last_key, key_after, key_before};
 ghost use Rattle.plain_base.specs.Sorted.{IsInOrder, placed, rows_above, rows_below, rows_between};
 ghost use Rattle.plain_base.specs.SortedLaws.{placed-adds};
 
@@ -13,7 +15,7 @@ use std::sync::ledger::Ledger;
 
 /// Rows of a key and a value in the order `C` of their keys: `java.util.TreeMap` with a comparator.
 ///
-/// Each call that takes `steps` counts one. Only `insert` takes memory, and where it finds none the rows are as before.
+/// Each call that takes `steps` counts one. Only `insert` and `put` take memory, and where it finds none the rows are as before.
 #[derive(Drop)]
 pub struct TreeMapRows<V: Copy, C: Compare = Natural> {
     free: FreeTreeMapRows<V, C>,
@@ -77,6 +79,88 @@ impl<V: Copy, C: Compare> TreeMapRows<V, C> {
     {
         steps.tick();
         self.free.next_below(k)
+    }
+
+    /// The first row.
+    pub fn first_row<L: Ledger>(&self, steps: &mut Steps<L>) -> Option<(Elem, V)>
+        ensures key { option_map (λ row. row.0) result ≡ first_key self.now }
+        ensures value { IfSome result (λ row. value_at self.now row.0 ≡ Some row.1) }
+        ensures step { steps.new ≡ steps.old + 1 }
+    {
+        steps.tick();
+        self.free.first_row()
+    }
+
+    /// The last row.
+    pub fn last_row<L: Ledger>(&self, steps: &mut Steps<L>) -> Option<(Elem, V)>
+        ensures key { option_map (λ row. row.0) result ≡ last_key self.now }
+        ensures value { IfSome result (λ row. value_at self.now row.0 ≡ Some row.1) }
+        ensures step { steps.new ≡ steps.old + 1 }
+    {
+        steps.tick();
+        self.free.last_row()
+    }
+
+    /// The row after that of `k`.
+    pub fn row_after<L: Ledger>(&self, k: Elem, steps: &mut Steps<L>) -> Option<(Elem, V)>
+        requires { IsPresent self.now k }
+        ensures key { option_map (λ row. row.0) result ≡ key_after (same k) self.now }
+        ensures value { IfSome result (λ row. value_at self.now row.0 ≡ Some row.1) }
+        ensures step { steps.new ≡ steps.old + 1 }
+    {
+        steps.tick();
+        self.free.row_after(k)
+    }
+
+    /// The row before that of `k`.
+    pub fn row_before<L: Ledger>(&self, k: Elem, steps: &mut Steps<L>) -> Option<(Elem, V)>
+        requires { IsPresent self.now k }
+        ensures key { option_map (λ row. row.0) result ≡ key_before (same k) self.now }
+        ensures value { IfSome result (λ row. value_at self.now row.0 ≡ Some row.1) }
+        ensures step { steps.new ≡ steps.old + 1 }
+    {
+        steps.tick();
+        self.free.row_before(k)
+    }
+
+    /// The first row in a window, whose cuts are read in the order `C`.
+    pub fn first_row_in<L: Ledger>(&self, w: &Window, steps: &mut Steps<L>) -> Option<(Elem, V)>
+        requires { cut_upto C.before w.now.lo w.now.hi ≡ true }
+        ensures key { option_map (λ row. row.0) result ≡ first_key (rows_between C.before w.now.lo w.now.hi self.now) }
+        ensures value { IfSome result (λ row. value_at self.now row.0 ≡ Some row.1) }
+        ensures step { steps.new ≡ steps.old + 1 }
+    {
+        steps.tick();
+        self.free.first_row_in(w)
+    }
+
+    /// The last row in a window, whose cuts are read in the order `C`.
+    pub fn last_row_in<L: Ledger>(&self, w: &Window, steps: &mut Steps<L>) -> Option<(Elem, V)>
+        requires { cut_upto C.before w.now.lo w.now.hi ≡ true }
+        ensures key { option_map (λ row. row.0) result ≡ last_key (rows_between C.before w.now.lo w.now.hi self.now) }
+        ensures value { IfSome result (λ row. value_at self.now row.0 ≡ Some row.1) }
+        ensures step { steps.new ≡ steps.old + 1 }
+    {
+        steps.tick();
+        self.free.last_row_in(w)
+    }
+
+    /// Gives a key a value, in its row or in a new row in the order. It tells the value before, and takes memory only
+    /// for a new key.
+    pub fn put<L: Ledger>(
+        &mut self,
+        k: Elem,
+        v: V,
+        steps: &mut Steps<L>,
+    ) -> Result<Option<V>, NoMemory>
+        ensures before { IfOk result (λ before. before ≡ value_at self.old k) }
+        ensures rows { OnOk result (self.new ≡ cond (is_some (value_at self.old k)) (with_value self.old k v) (placed C.before self.old k v)) }
+        ensures err { OnErr result (self.new ≡ self.old) }
+        ensures memory { OnErr result (value_at self.old k ≡ None) }
+        ensures step { steps.new ≡ steps.old + 1 }
+    {
+        steps.tick();
+        self.free.put(k, v)
     }
 }
 

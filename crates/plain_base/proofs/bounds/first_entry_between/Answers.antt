@@ -1,5 +1,5 @@
 use Rattle.plain_base.proofs.SortedLemmas.{in_order, first_found, first_missing}
-use Rattle.plain_base.proofs.bounds.first_between.Goals as goal
+use Rattle.plain_base.proofs.bounds.first_entry_between.Goals as goal
 
 pub returns-in-Some-clause-key : goal.returns-in-Some-clause-key
 returns-in-Some-clause-key g c = first_found _ _ _ _ _ (c.range.ensures.between tt) c.in-Some.ensures.steps c.elem.ensures
