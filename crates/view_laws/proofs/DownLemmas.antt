@@ -4,6 +4,7 @@ use Rattle.std.specs.Prelude.{Option, Some, None}
 use Rattle.std.proofs.lemmas.Option.{option_and_then_some, some_pair_parts}
 use Rattle.vocabulary.specs.declared.items.Side.{Side}
 use Rattle.vocabulary.specs.declared.items.Side.TheVariants.{First, Second}
+use Rattle.vocabulary.specs.declared.shapes.Shape.{Shape}
 use Rattle.vocabulary.specs.declared.steps.Step.{Step}
 use Rattle.machine.specs.Bases.{World}
 use Rattle.machine.specs.Views.{View, base, both, over, base_under, shape_at}
@@ -28,12 +29,13 @@ told_is : (a t : Bool) → not a || t ≡ true → a ≡ true → t ≡ true
 told_is true t h asked = h
 told_is false t h asked = absurd (cc)
 
+-- each part of which a lane asks is told of the shape
+pub told_each : (of : Shape) (it : Step) (lane : Lane) → told_if_asked of it lane First ≡ true → told_if_asked of it lane Second ≡ true → (side : Side) → asks_part lane side ≡ true → tells_on of it side ≡ true
+told_each of it lane first second First asked = told_is (asks_part lane First) (tells_on of it First) first asked
+told_each of it lane first second Second asked = told_is (asks_part lane Second) (tells_on of it Second) second asked
+
 told_where_asked : (world : World) (spots : Spots) (v : View) (it : Step) (lane : Lane) → IsFormed world v → told_if_asked (shape_at world v) it lane First ≡ true → told_if_asked (shape_at world v) it lane Second ≡ true → IsTold world spots v it lane
-told_where_asked world spots v it lane f first second side asked p d is = told_on_shape (shape_at world v) it side d.item (show_fits world spots v p d f is) (by side asked)
-  where
-    by : (side : Side) → asks_part lane side ≡ true → tells_on (shape_at world v) it side ≡ true
-    by First asked = told_is (asks_part lane First) (tells_on (shape_at world v) it First) first asked
-    by Second asked = told_is (asks_part lane Second) (tells_on (shape_at world v) it Second) second asked
+told_where_asked world spots v it lane f first second side asked p d is = told_on_shape (shape_at world v) it side d.item (show_fits world spots v p d f is) (told_each (shape_at world v) it lane first second side asked)
 
 pub if_told : (b : Bool) (o : Option Lane) (below : Lane) → cond b o None ≡ Some below → (b ≡ true) × (o ≡ Some below)
 if_told true o below h = (refl, h)

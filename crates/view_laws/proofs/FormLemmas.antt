@@ -52,7 +52,7 @@ formed_second : (world : World) (word : JoinStep) (v u : View) → IsFormed worl
 formed_second world word v u f = record { made = f.made.2; apart = (neither_true (stands_on_pieces world v) (stands_on_pieces world u) f.apart).1; rows = f.rows.1 }
 
 -- the shape that a step gives is that of the view above it
-given_shape : (P : Shape → Type 0) (below : Shape) (o : Option Shape) → IsSome o → IfSome o P → P (shape_after below o)
+pub given_shape : (P : Shape → Type 0) (below : Shape) (o : Option Shape) → IsSome o → IfSome o P → P (shape_after below o)
 given_shape P below None h p = absurd (cc)
 given_shape P below (Some given) h p = p
 

@@ -58,7 +58,7 @@ rows_found_at at n [] (row ∷ rows) z = absurd z
 rows_found_at at n (s ∷ spots) [] z = absurd z
 rows_found_at at n (s ∷ spots) (row ∷ rows) z = (z.0, rows_found_at at (n + 1) spots rows z.1)
 
-found_at : (world : World) (spots : Spots) (v : View) → is_by_row world v ≡ true → TellAll world spots → FoundAt (show world spots v) (form_of v) (spots (base_under v)) (leaf_at world (base_under v)).rows
+pub found_at : (world : World) (spots : Spots) (v : View) → is_by_row world v ≡ true → TellAll world spots → FoundAt (show world spots v) (form_of v) (spots (base_under v)) (leaf_at world (base_under v)).rows
 found_at world spots v ok tell =
     zipped-as _ _ (λ s row e. row_shown world spots v (place_of s) row ok e) (spots (base_under v)) (leaf_at world (base_under v)).rows
     (rows_found_at (show world spots (base (base_under v))) 0 (spots (base_under v)) (leaf_at world (base_under v)).rows (base_stands (spots (base_under v)) (leaf_at world (base_under v)).rows (tell (base_under v))))

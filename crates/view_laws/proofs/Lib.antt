@@ -29,3 +29,6 @@ pub mod RowPlaceLemmas
 pub mod FormPlaces
 pub mod RowChangeLemmas
 pub mod SearchLemmas
+pub mod BaseLineLemmas
+pub mod ItemLemmas
+pub mod TakeLemmas

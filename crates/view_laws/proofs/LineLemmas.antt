@@ -84,7 +84,7 @@ told_parts step lane at told side asked =
     (λ p. if_all (λ d below. at p ≡ Some d → part_of side (item_of step d.item) ≡ part_of below d.item) (source_of step side)
     (λ d. if_all (λ e below. part_of side (item_of step d.item) ≡ part_of below d.item) (source_of step side) (λ e. part_told step side d.item (told side asked p d e))))
 
-asked_part : (lane : Lane) (side : Side) → is_any (asked_of side lane) ≡ false → asks_part lane side ≡ true
+pub asked_part : (lane : Lane) (side : Side) → is_any (asked_of side lane) ≡ false → asks_part lane side ≡ true
 asked_part lane side h = ap (λ b. not b || is_by lane.pick side) h
 
 picked_part : (lane : Lane) (side : Side) → is_by lane.pick side ≡ true → asks_part lane side ≡ true

@@ -15,3 +15,6 @@ pub mod LanesDown
 pub mod RowPlaces
 pub mod RowChanges
 pub mod Searches
+pub mod Following
+pub mod BaseLines
+pub mod Serving

@@ -1,6 +1,6 @@
 -- The lane below a step that gives what a lane above it takes: by the step's family, and by columns that say what the
 -- step makes of each part of an item.
-use Rattle.std.specs.Prelude.{ℕ, ◌+◌, ◌-◌, min, Bool, true, false, not, ◌||◌, if◌then◌else◌, Option, None, Some, option_map}
+use Rattle.std.specs.Prelude.{ℕ, ◌+◌, ◌-◌, ◌^◌, ◌<◌, min, Bool, true, false, not, ◌||◌, if◌then◌else◌, Option, None, Some, option_map}
 use Rattle.std.specs.Option.{option_and_then}
 use Rattle.elem.specs.Elements.{same}
 use Rattle.vocabulary.specs.declared.items.Item.{Item}
@@ -148,9 +148,10 @@ abbrev pub is_run : Pick → Bool
 is_run (pick.Run r) = true
 is_run other = false
 
-abbrev pub start_of : Pick → ℕ
-start_of (pick.Run r) = r.start
-start_of other = 0
+-- a run of a run starts where a number can say it
+abbrev pub StartFits : Pick → ℕ → Type 0
+StartFits (pick.Run r) start = r.start + start < 2 ^ 64
+StartFits other start = Unit {0}
 
 -- the run that is what a pick takes of a sublist; one counted from the back would need to know how much is seen
 abbrev pub run_within : Sublist → Pick → Option Run

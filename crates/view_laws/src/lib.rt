@@ -5,6 +5,7 @@
 //! contract of a function that does nothing.
 #![tactic(auto)]
 
+mod base_laws;
 mod down_laws;
 mod form_laws;
 mod group_orders;
@@ -14,12 +15,14 @@ mod line_laws;
 mod look_laws;
 mod look_ups;
 mod narrowing;
+mod passing;
 mod places;
 mod row_laws;
 mod row_place_laws;
 mod search_laws;
 mod shape_narrowing;
 
+pub use base_laws::{line_of_base, takes_down};
 pub use down_laws::{each_down, line_down, order_at, told_on_shape};
 pub use form_laws::{items_fit, show_fits};
 pub use group_orders::order_on;
@@ -29,6 +32,7 @@ pub use line_laws::{found_in_lane, line_hidden, line_joined, line_over, whole_li
 pub use look_laws::{groups_there, shows_both, shows_first, shows_hidden, shows_over, shows_row};
 pub use look_ups::{decided, found_over, look_below};
 pub use narrowing::{flipped, narrow, source_of};
+pub use passing::pass_down;
 pub use places::{Found, Place, RowSpot, same_spot, shifted, unshifted};
 pub use row_laws::{
     candidates_of_rows, found_of_rows, lift_undone, lifted_is_shown, shown_of_rows,

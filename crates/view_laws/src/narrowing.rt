@@ -1,5 +1,5 @@
 //! What a lane of a step over a view asks of that view, by the step's family and by the columns of its parts.
-ghost use Rattle.std.specs.Prelude.{◌≡◌, ◌+◌, ◌<◌, ◌^◌};
+ghost use Rattle.std.specs.Prelude.{◌≡◌};
 ghost use Rattle.view_laws.specs.Narrowing as spec;
 ghost use Rattle.vocabulary.specs.Steps.{run_in as run_of};
 
@@ -251,7 +251,7 @@ fn narrow_grouped(order: GroupOrder, side: Side, lane: &Lane) -> Option<Lane>
 
 /// A run of the view below that is what a pick takes of a sublist.
 fn run_within(sublist: &Sublist, pick: Pick) -> Option<Run>
-    requires fits { spec.start_of pick + sublist.now.start < 2 ^ 64 }
+    requires fits { spec.StartFits pick sublist.now.start }
     ensures { result ≡ spec.run_within sublist.now pick }
 {
     match pick {
@@ -277,7 +277,7 @@ fn run_within(sublist: &Sublist, pick: Pick) -> Option<Run>
 }
 
 fn narrow_run(sublist: &Sublist, lane: &Lane) -> Option<Lane>
-    requires fits { spec.start_of lane.now.pick + sublist.now.start < 2 ^ 64 }
+    requires fits { spec.StartFits lane.now.pick sublist.now.start }
     ensures { result ≡ spec.narrow_run sublist.now lane.now }
 {
     match (lane.first, lane.second) {
@@ -305,7 +305,7 @@ fn run_in(step: &Step) -> Sublist
 /// The lane below a step that gives what the lane above it takes, where there is one, and where the step puts keys in
 /// this order.
 pub fn narrow(order: GroupOrder, step: &Step, lane: &Lane) -> Option<Lane>
-    requires fits { spec.start_of lane.now.pick + (run_of step.now).start < 2 ^ 64 }
+    requires fits { spec.StartFits lane.now.pick (run_of step.now).start }
     ensures { result ≡ spec.narrow order step.now lane.now }
 {
     match family_of(step) {

@@ -1,5 +1,5 @@
 //! What a step tells of the items of a view, by the view's shape alone; and the narrowing of lanes by what is told so.
-ghost use Rattle.std.specs.Prelude.{◌≡◌, ◌+◌, ◌<◌, ◌^◌};
+ghost use Rattle.std.specs.Prelude.{◌≡◌};
 ghost use Rattle.view_laws.specs.Narrowing as narrowing;
 ghost use Rattle.view_laws.specs.ShapeNarrowing as spec;
 ghost use Rattle.vocabulary.specs.Steps.{run_in as run_of};
@@ -95,7 +95,7 @@ fn told_if_asked(shape: Shape, step: &Step, lane: &Lane, side: Side) -> bool
 
 /// The lane below a step on a view of a shape, where each part that the lane above asks of is told.
 pub fn narrow_on(shape: Shape, order: GroupOrder, step: &Step, lane: &Lane) -> Option<Lane>
-    requires fits { narrowing.start_of lane.now.pick + (run_of step.now).start < 2 ^ 64 }
+    requires fits { narrowing.StartFits lane.now.pick (run_of step.now).start }
     ensures { result ≡ spec.narrow_on shape order step.now lane.now }
 {
     let first = told_if_asked(shape, step, lane, Side::First);
