@@ -1,6 +1,6 @@
 -- What goes from a set or a map, and from a list by its index.
-use Rattle.std.proofs.Common.{◌≡◌, ℕ, zero, suc, Bool, true, false, cond, not, List, [], ◌∷◌, ◌++◌, take, drop, map, length, Some, None, refl, sym, ap, ◌∙◌, subst, arith, append_assoc}
-use Rattle.std.specs.Prelude.{filter, find, slice_get, is_some, IsSome}
+use Rattle.std.proofs.Common.{◌≡◌, ℕ, zero, suc, ◌+◌, Bool, true, false, cond, not, List, [], ◌∷◌, ◌++◌, take, drop, map, length, Some, None, refl, sym, ap, ◌∙◌, subst, arith, append_assoc}
+use Rattle.std.specs.Prelude.{filter, slice_get, is_some, IsSome}
 use Rattle.std.specs.List.{IsDistinct, AllByRecursion, remove}
 use Rattle.std.specs.Map.{keys_of}
 use Rattle.std.proofs.lemmas.List.{take-append-drop, append-nil, take_all, drop_all, take-map, drop-map, map-append}
@@ -9,55 +9,42 @@ use Rattle.std.proofs.lemmas.Map.{NonePasses}
 use Rattle.std.proofs.lemmas.Option.{same_Some}
 use Rattle.elem.specs.declared.elements.Elem.{Elem}
 use Rattle.elem.specs.Elements.{same}
-use Rattle.elem.specs.ElementLaws.{same-Decides}
+use Rattle.elem.specs.ElementLaws.{same-Decides, same_equiv}
 use Rattle.elem.specs.Keyed.{value_at, without, HasDistinctKeys, IsPresent}
 use Rattle.elem.specs.Rows.{first_key, key_after}
 use Rattle.elem.proofs.RowsLemmas.{lookup_at, remove_at, key_after_at}
 use Rattle.base_rows.specs.BaseRows.{items}
+use Rattle.base_rows.specs.BaseSpots.{key_spot, numbered, IsRowAt}
 use Rattle.base_rows.specs.Journals.{items_by}
 use Rattle.vocabulary.specs.declared.items.Item.{Item}
 use Rattle.vocabulary.specs.declared.items.Item.TheVariants.{One}
-use Rattle.view_steps.specs.declared.places.Place.{Place}
-use Rattle.view_steps.specs.declared.places.Place.TheVariants.{Index, Key}
+use Rattle.view_laws.specs.declared.places.RowSpot.{RowSpot}
+use Rattle.view_laws.specs.declared.places.RowSpot.TheVariants.{Index, Key}
 use Rattle.machine.specs.Edits.{without_rows}
 use Rattle.vocabulary.specs.Items.{key_of}
-use Rattle.view_steps.specs.Places.{key_place, row_at, IsNumberAt, IsRowAt}
-use Rattle.view_steps.proofs.ListLemmas.{filter-map}
-use Rattle.view_steps.proofs.LabelLemmas.{turned_round}
-use Rattle.view_steps.proofs.EditedRows.{without_numbers}
+use Rattle.view_laws.proofs.ListLemmas.{filter-map}
+use Rattle.base_rows.proofs.KeyLemmas.{itself, later}
+use Rattle.base_rows.proofs.OneGone.{without_numbers}
+use Rattle.base_rows.proofs.SpotLines.{key_spot_at, spots_of_keys}
+use Rattle.base_rows.proofs.SpotsTold.{at_index}
 
 -- ---- one row by its number
 
-pub index_gone : (old new : List Elem) (i : ℕ) (p : Place) (numbers : List ℕ) → p ≡ Index i → IsRowAt (items old) p numbers → new ≡ remove old i → items new ≡ without_rows numbers 0 (items old)
-index_gone old new i p numbers p_is at new_is =
-    let only : numbers ≡ i ∷ [] = at.only ∙ ap (λ m. m ∷ []) (subst (IsNumberAt at.number) p_is at.index) in
-    ap items new_is ∙ map-append One (take i old) (drop (suc i) old) ∙ (λ l. sym (take-map One i old) l ++ sym (drop-map One (suc i) old) l) ∙ without_numbers (items old) i numbers only
-
--- ---- places
-
-abbrev index_or : ℕ → Place → ℕ
+abbrev index_or : ℕ → RowSpot → ℕ
 index_or d (Index i) = i
-index_or d (Key k) = d
+index_or d other = d
 
 pub same_index : (i j : ℕ) → Index i ≡ Index j → i ≡ j
 same_index i j e = ap (index_or i) e
 
-abbrev key_or : Elem → Place → Elem
-key_or d (Index i) = d
-key_or d (Key k) = k
-
-same_place : (k l : Elem) → Key k ≡ Key l → k ≡ l
-same_place k l e = ap (key_or k) e
+pub index_gone : (old new : List Elem) (i : ℕ) (s : RowSpot) (numbers : List ℕ) → s ≡ Index i → IsRowAt (numbered 0 (items old)) s numbers → new ≡ remove old i → items new ≡ without_rows numbers 0 (items old)
+index_gone old new i s numbers s_is at new_is =
+    let stands = at_index (items old) 0 at.number s at.at in
+    let number : at.number ≡ i = omega (arith, same_index i (0 + at.number) (sym s_is ∙ stands.0)) in
+    let only : numbers ≡ i ∷ [] = at.only ∙ ap (λ m. m ∷ []) number in
+    ap items new_is ∙ map-append One (take i old) (drop (suc i) old) ∙ (λ l. sym (take-map One i old) l ++ sym (drop-map One (suc i) old) l) ∙ without_numbers (items old) i numbers only
 
 -- ---- the row of a key
-
-find_passes : (test : Item → Bool) (rows : List Item) (row : Item) → Some row ≡ find test rows → test row ≡ true
-find_passes test [] row e = absurd (cc)
-find_passes test (first ∷ rows) row e = by (test first) refl e (find_passes test rows row)
-  where
-    by : (t : Bool) → test first ≡ t → Some row ≡ cond t (Some first) (find test rows) → (Some row ≡ find test rows → test row ≡ true) → test row ≡ true
-    by true h q ih = ap test (same_Some row first q) ∙ h
-    by false h q ih = ih q
 
 module _ {V : Type 0} where
   all_at : (a : Elem) (front : List (Elem × V)) (k : Elem) (v : V) (rest : List (Elem × V)) → AllByRecursion (λ y. same a y ≡ false) (keys_of (front ++ (k, v) ∷ rest)) → same a k ≡ false
@@ -67,7 +54,7 @@ module _ {V : Type 0} where
   none_before : (front : List (Elem × V)) (k : Elem) (v : V) (rest : List (Elem × V)) → HasDistinctKeys (front ++ (k, v) ∷ rest) → NonePasses (same k) front
   unfolding IsDistinct
   none_before [] k v rest d = tt
-  none_before (row ∷ front) k v rest d = (turned_round row.0 k (all_at row.0 front k v rest d.0), none_before front k v rest d.1)
+  none_before (row ∷ front) k v rest d = (same_equiv.symm k row.0 ∙ all_at row.0 front k v rest d.0, none_before front k v rest d.1)
 
   pub next_key : (old front rest : List (Elem × V)) (k : Elem) (v : V) → HasDistinctKeys old → old ≡ front ++ (k, v) ∷ rest → key_after (same k) old ≡ first_key rest
   next_key old front rest k v d e = let none = none_before front k v rest (subst HasDistinctKeys e d) in ap (key_after (same k)) e ∙ key_after_at (same k) front (k, v) rest none ((same-Decides k k).1 refl)
@@ -151,53 +138,16 @@ module _ {V : Type 0} where
     kept_items passes now old e = ap (items_by row_of) e ∙ sym (filter-map (λ row. not (passes row)) (λ (row : Elem × V). row_of row.0 row.1) old)
 
     -- ---- the row of a key, by its number
-    module _ (key_kept : (k : Elem) (v : V) → key_of (row_of k v) ≡ k) where
-      other_key : (a : Elem) (rows : List (Elem × V)) (n : ℕ) (item : Item) → AllByRecursion (λ y. same a y ≡ false) (keys_of rows) → slice_get (items_by row_of rows) n ≡ Some item → same a (key_of item) ≡ false
-      other_key a [] n item h e = absurd (cc)
-      other_key a (row ∷ rows) zero item h e = ap (same a) (ap key_of (sym (same_Some (row_of row.0 row.1) item e)) ∙ key_kept row.0 row.1) ∙ h.0
-      other_key a (row ∷ rows) (suc n) item h e = other_key a rows n item h.1 e
 
-      gone : (rows : List (Elem × V)) (k : Elem) (v : V) (n : ℕ) → HasDistinctKeys rows → value_at rows k ≡ Some v → slice_get (items_by row_of rows) n ≡ find (λ row. same k (key_of row)) (items_by row_of rows)
-          → items_by row_of (without rows k) ≡ remove (items_by row_of rows) n
-      unfolding IsDistinct
-      gone [] k v n d is at = absurd (cc)
-      gone (row ∷ rows) k v zero d is at = by (same k row.0) refl (at ∙ ap (λ (x : Elem). cond (same k x) (Some (row_of row.0 row.1)) (find (λ row. same k (key_of row)) (items_by row_of rows))) (key_kept row.0 row.1))
-        where
-          by : (s : Bool) → same k row.0 ≡ s → Some (row_of row.0 row.1) ≡ cond s (Some (row_of row.0 row.1)) (find (λ row. same k (key_of row)) (items_by row_of rows))
-              → items_by row_of (cond s rows (row ∷ without rows k)) ≡ items_by row_of rows
-          by true e q = refl
-          by false e q =
-              let passes = find_passes (λ row. same k (key_of row)) (items_by row_of rows) (row_of row.0 row.1) q in
-              let f : same k row.0 ≡ true = ap (same k) (sym (key_kept row.0 row.1)) ∙ passes in
-              absurd (cc)
-      gone (row ∷ rows) k v (suc n) d is at =
-          by (same k row.0) refl is (at ∙ ap (λ (x : Elem). cond (same k x) (Some (row_of row.0 row.1)) (find (λ row. same k (key_of row)) (items_by row_of rows))) (key_kept row.0 row.1)) (gone rows k v n d.1) (other_key row.0 rows n (row_of row.0 row.1) d.0)
-        where
-          by : (s : Bool) → same k row.0 ≡ s → cond s (Some row.1) (value_at rows k) ≡ Some v
-              → slice_get (items_by row_of rows) n ≡ cond s (Some (row_of row.0 row.1)) (find (λ row. same k (key_of row)) (items_by row_of rows))
-              → (value_at rows k ≡ Some v → slice_get (items_by row_of rows) n ≡ find (λ row. same k (key_of row)) (items_by row_of rows) → items_by row_of (without rows k) ≡ remove (items_by row_of rows) n)
-              → (slice_get (items_by row_of rows) n ≡ Some (row_of row.0 row.1) → same row.0 (key_of (row_of row.0 row.1)) ≡ false)
-              → items_by row_of (cond s rows (row ∷ without rows k)) ≡ row_of row.0 row.1 ∷ remove (items_by row_of rows) n
-          by true e value q ih other =
-              let f : same row.0 row.0 ≡ false = ap (same row.0) (sym (key_kept row.0 row.1)) ∙ other q in
-              let t : same row.0 row.0 ≡ true = (same-Decides row.0 row.0).1 refl in
-              absurd (cc)
-          by false e value q ih other = ap (λ (rest : List Item). row_of row.0 row.1 ∷ rest) (ih value q)
+    gone : (rows : List (Elem × V)) (k : Elem) (n : ℕ) → HasDistinctKeys rows → slice_get (keys_of rows) n ≡ Some k → items_by row_of (without rows k) ≡ remove (items_by row_of rows) n
+    unfolding IsDistinct
+    gone [] k n d at = absurd (cc)
+    gone (row ∷ rows) k zero d at = ap (λ b. items_by row_of (cond b rows (row ∷ without rows k))) (itself k row.0 (same_Some row.0 k at))
+    gone (row ∷ rows) k (suc n) d at =
+        ap (λ b. items_by row_of (cond b rows (row ∷ without rows k))) (later row.0 (keys_of rows) n k d.0 at) ∙ ap (λ (rest : List Item). row_of row.0 row.1 ∷ rest) (gone rows k n d.1 at)
 
-      key_there : (rows : List (Elem × V)) (i : ℕ) (k : Elem) → slice_get (map key_place (items_by row_of rows)) i ≡ Some (Key k) → (v : V) × (value_at rows k ≡ Some v)
-      key_there [] i k e = absurd (cc)
-      key_there (row ∷ rows) zero k e =
-          let here : same k row.0 ≡ true = (same-Decides k row.0).1 (sym (sym (key_kept row.0 row.1) ∙ same_place (key_of (row_of row.0 row.1)) k (same_Some (key_place (row_of row.0 row.1)) (Key k) e))) in
-          (row.1, ap (λ b. cond b (Some row.1) (value_at rows k)) here)
-      key_there (row ∷ rows) (suc i) k e = by (same k row.0) (key_there rows i k e)
-        where
-          by : (s : Bool) → (v : V) × (value_at rows k ≡ Some v) → (v : V) × (cond s (Some row.1) (value_at rows k) ≡ Some v)
-          by true rest = (row.1, refl)
-          by false rest = rest
-
-      pub gone_key : (old new : List (Elem × V)) (k : Elem) (i : ℕ) (p : Place) (numbers : List ℕ) → HasDistinctKeys old → slice_get (map key_place (items_by row_of old)) i ≡ Some p → p ≡ Key k → new ≡ without old k
-          → IsRowAt (items_by row_of old) p numbers → items_by row_of new ≡ without_rows numbers 0 (items_by row_of old)
-      gone_key old new k i p numbers d from p_is new_is at =
-          let there = key_there old i k (from ∙ ap Some p_is) in
-          let row : slice_get (items_by row_of old) at.number ≡ find (λ row. same k (key_of row)) (items_by row_of old) = at.row ∙ ap (row_at (items_by row_of old)) p_is in
-          ap (items_by row_of) new_is ∙ gone old k there.0 at.number d there.1 row ∙ without_numbers (items_by row_of old) at.number numbers at.only
+    pub gone_key : ((k : Elem) (v : V) → key_of (row_of k v) ≡ k) → (old new : List (Elem × V)) (k : Elem) (s : RowSpot) (numbers : List ℕ) → HasDistinctKeys old → s ≡ Key k → new ≡ without old k
+        → IsRowAt (map key_spot (items_by row_of old)) s numbers → items_by row_of new ≡ without_rows numbers 0 (items_by row_of old)
+    gone_key key_kept old new k s numbers d s_is new_is at =
+        let spot : slice_get (map Key (keys_of old)) at.number ≡ Some (Key k) = ap (λ spots. slice_get spots at.number) (sym (spots_of_keys row_of key_kept old)) ∙ at.at ∙ ap Some s_is in
+        ap (items_by row_of) new_is ∙ gone old k at.number d (key_spot_at (keys_of old) at.number k spot) ∙ without_numbers (items_by row_of old) at.number numbers at.only

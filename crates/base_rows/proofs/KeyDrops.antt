@@ -12,8 +12,7 @@ use Rattle.elem.specs.ElementLaws.{same-Decides}
 use Rattle.elem.specs.Keyed.{value_at, without, HasDistinctKeys, IsPresent}
 use Rattle.base_rows.proofs.DropLemmas.{one_more, present}
 use Rattle.vocabulary.specs.declared.items.Item.{Item}
-use Rattle.vocabulary.specs.Items.{key_of}
-use Rattle.view_steps.proofs.ListLemmas.{filter-filter}
+use Rattle.view_laws.proofs.ListLemmas.{filter-filter}
 
 module _ {V : Type 0} (k : Elem) (test : Elem × V → Bool) where
   -- the rows without that of k, where it passes
@@ -128,8 +127,7 @@ among_keys (row ∷ rows) x h = by (same x row.0) refl h (among_keys rows x)
     by false e f ih = last (same row.0 x) (list_any (λ k. same k x) (keys_of rows)) (ih f)
 
 -- each row that passes has one of the keys
-pub keys_cover : {V U : Type 0} (row_of : Elem → V → Item) → ((k : Elem) (v : V) → key_of (row_of k v) ≡ k) → (passes : Item → Bool) (keys all : List (Elem × U)) → all ≡ keys
-    → ((item : Item) → passes item ≡ true → is_some (value_at keys (key_of item)) ≡ true) → (row : Elem × V) → passes (row_of row.0 row.1) ≡ true → list_any (λ k. same k row.0) (keys_of all) ≡ true
-keys_cover {V} {U} row_of kept passes keys all e covers row h =
-    ap (λ (rows : List (Elem × U)). list_any (λ k. same k row.0) (keys_of rows)) e
-    ∙ among_keys keys row.0 (ap (λ (x : Elem). is_some (value_at keys x)) (sym (kept row.0 row.1)) ∙ covers (row_of row.0 row.1) h)
+pub keys_cover : {V U : Type 0} (row_of : Elem → V → Item) (passes : Item → Bool) (keys all : List (Elem × U)) → all ≡ keys
+    → ((k : Elem) (v : V) → passes (row_of k v) ≡ true → is_some (value_at keys k) ≡ true) → (row : Elem × V) → passes (row_of row.0 row.1) ≡ true → list_any (λ k. same k row.0) (keys_of all) ≡ true
+keys_cover {V} {U} row_of passes keys all e covers row h =
+    ap (λ (rows : List (Elem × U)). list_any (λ k. same k row.0) (keys_of rows)) e ∙ among_keys keys row.0 (covers row.0 row.1 h)

@@ -11,21 +11,21 @@ use Rattle.elem.specs.Elements.{same}
 use Rattle.elem.specs.ElementLaws.{same-Decides, same_equiv}
 use Rattle.elem.specs.Keyed.{value_at, IsPresent, HasDistinctKeys}
 use Rattle.elem.specs.Rows.{first_key, last_key, last_key_or, key_after, key_before, key_before_or}
-use Rattle.view_steps.specs.declared.lanes.Lane.{Lane}
-use Rattle.view_steps.specs.declared.lanes.Lane.TheVariants.{All, OfKey, Within, Nothing}
+use Rattle.view_laws.specs.declared.lanes.PartAsk.{PartAsk}
+use Rattle.view_laws.specs.declared.lanes.PartAsk.TheVariants.{Any, Is, Within, Nothing}
 use Rattle.vocabulary.specs.declared.orders.Order.{Order}
-use Rattle.view_steps.specs.Lanes.{takes_key}
-use Rattle.view_laws.specs.Lanes.{turned_if}
-use Rattle.view_steps.proofs.ListLemmas.{filter-all}
-use Rattle.view_steps.proofs.TurnLemmas.{reverse_at, before_at, reverse_next, reverse_first, nothing_there}
-use Rattle.view_steps.proofs.MemberLemmas.{in_turned}
-use Rattle.base_rows.specs.KeyLines.{key_line, HasNoWindow, HasWindowIn, IsKeyFrom, KeyFollows}
+use Rattle.view_laws.specs.Following.{Follows, IsFrom}
+use Rattle.view_laws.specs.Lanes.{meets, turned_if}
+use Rattle.view_laws.proofs.ListLemmas.{filter-all}
+use Rattle.base_rows.specs.KeyLines.{key_line, HasNoWindow, HasWindowIn}
+use Rattle.base_rows.proofs.MemberLemmas.{in_turned}
+use Rattle.base_rows.proofs.TurnLemmas.{reverse_at, before_at, reverse_next, reverse_first, nothing_there}
 
-itself : (k l : Elem) → l ≡ k → same k l ≡ true
+pub itself : (k l : Elem) → l ≡ k → same k l ≡ true
 itself k l e = (same-Decides k l).1 (sym e)
 
 -- a key behind another is not the same
-later : (k : Elem) (ks : List Elem) (i : ℕ) (l : Elem) → AllByRecursion (λ y. same k y ≡ false) ks → slice_get ks i ≡ Some l → same l k ≡ false
+pub later : (k : Elem) (ks : List Elem) (i : ℕ) (l : Elem) → AllByRecursion (λ y. same k y ≡ false) ks → slice_get ks i ≡ Some l → same l k ≡ false
 later k [] i l all is = absurd (cc)
 later k (y ∷ ys) zero l all is = same_equiv.symm l k ∙ ap (same k) (sym (same_Some y l is)) ∙ all.0
 later k (y ∷ ys) (suc i) l all is = later k ys i l all.1 is
@@ -82,28 +82,25 @@ module _ {V : Type 0} where
 
   -- ---- the lane of all keys
 
-  all_keys : (back : Bool) (rows : List (Elem × V)) → key_line All back (keys_of rows) ≡ turned_if back (keys_of rows)
+  all_keys : (back : Bool) (rows : List (Elem × V)) → key_line Any back (keys_of rows) ≡ turned_if back (keys_of rows)
   all_keys back rows = ap (turned_if back) (filter-all (keys_of rows))
 
-  pub key_present : (rows : List (Elem × V)) (back : Bool) (from : Option Elem) (k : Elem) → IsKeyFrom (key_line All back (keys_of rows)) from → from ≡ Some k → IsPresent rows k
+  pub key_present : (rows : List (Elem × V)) (back : Bool) (from : Option Elem) (k : Elem) → IsFrom (key_line Any back (keys_of rows)) from → from ≡ Some k → IsPresent rows k
   key_present rows back from k h f =
-      let at : IsKeyFrom (turned_if back (keys_of rows)) (Some k) = subst (λ ks. IsKeyFrom ks (Some k)) (all_keys back rows) (subst (IsKeyFrom (key_line All back (keys_of rows))) f h) in
+      let at : IsFrom (turned_if back (keys_of rows)) (Some k) = subst (λ ks. IsFrom ks (Some k)) (all_keys back rows) (subst (IsFrom (key_line Any back (keys_of rows))) f h) in
       let there = in_turned back (keys_of rows) k at.0 at.1 in
       present_at rows there.0 k there.1
 
-  pub follows_last : (rows : List (Elem × V)) (back : Bool) (from r : Option Elem) → from ≡ None → back ≡ true → r ≡ last_key rows → KeyFollows (key_line All back (keys_of rows)) from r
+  pub follows_last : (rows : List (Elem × V)) (back : Bool) (from r : Option Elem) → from ≡ None → back ≡ true → r ≡ last_key rows → Follows (key_line Any back (keys_of rows)) from r
   follows_last rows back from r f b e = rw (f, b, e, all_keys true rows) (last_at rows)
 
-  pub follows_first : (rows : List (Elem × V)) (back : Bool) (from r : Option Elem) → from ≡ None → back ≡ false → r ≡ first_key rows → KeyFollows (key_line All back (keys_of rows)) from r
-  follows_first rows back from r f b e = rw (f, b, e, all_keys false rows) (first_at rows)
-
-  pub follows_before : (rows : List (Elem × V)) (back : Bool) (from r : Option Elem) (k : Elem) → HasDistinctKeys rows → from ≡ Some k → back ≡ true → r ≡ key_before (same k) rows → KeyFollows (key_line All back (keys_of rows)) from r
+  pub follows_before : (rows : List (Elem × V)) (back : Bool) (from r : Option Elem) (k : Elem) → HasDistinctKeys rows → from ≡ Some k → back ≡ true → r ≡ key_before (same k) rows → Follows (key_line Any back (keys_of rows)) from r
   follows_before rows back from r k d f b e = rw (f, b, e, all_keys true rows) (λ i is. before_from_back rows k i d is)
 
-  pub follows_after : (rows : List (Elem × V)) (back : Bool) (from r : Option Elem) (k : Elem) → HasDistinctKeys rows → from ≡ Some k → back ≡ false → r ≡ key_after (same k) rows → KeyFollows (key_line All back (keys_of rows)) from r
+  pub follows_after : (rows : List (Elem × V)) (back : Bool) (from r : Option Elem) (k : Elem) → HasDistinctKeys rows → from ≡ Some k → back ≡ false → r ≡ key_after (same k) rows → Follows (key_line Any back (keys_of rows)) from r
   follows_after rows back from r k d f b e = rw (f, b, e, all_keys false rows) (λ i is. after_at rows k i d is)
 
-  -- ---- the lane of one key
+  -- ---- one key asked for
 
   -- the key alone, where it has a value
   abbrev alone : Elem → Option V → List Elem
@@ -129,32 +126,32 @@ module _ {V : Type 0} where
   none_behind false k (Some v) i = slice_get_past (k ∷ []) (i + 1) (omega arith)
 
   pub follows_one : (rows : List (Elem × V)) (k : Elem) (back : Bool) (from : Option Elem) (o : Option V) (v : V) → HasDistinctKeys rows → from ≡ None → o ≡ value_at rows k → o ≡ Some v
-      → KeyFollows (key_line (OfKey k) back (keys_of rows)) from (Some k)
+      → Follows (key_line (Is k) back (keys_of rows)) from (Some k)
   follows_one rows k back from o v d f e is = rw f (ap (λ ks. slice_get (turned_if back ks) 0) (one_of k rows d ∙ ap (alone k) (sym e ∙ is)) ∙ key_alone back k)
 
   pub follows_none : (rows : List (Elem × V)) (k : Elem) (back : Bool) (from : Option Elem) (o : Option V) → HasDistinctKeys rows → from ≡ None → o ≡ value_at rows k → o ≡ None
-      → KeyFollows (key_line (OfKey k) back (keys_of rows)) from None
+      → Follows (key_line (Is k) back (keys_of rows)) from None
   follows_none rows k back from o d f e is = rw f (ap (λ ks. slice_get (turned_if back ks) 0) (one_of k rows d ∙ ap (alone k) (sym e ∙ is)) ∙ nothing_there back 0)
 
-  pub follows_no_more : (rows : List (Elem × V)) (k : Elem) (back : Bool) (from : Option Elem) (l : Elem) → HasDistinctKeys rows → from ≡ Some l → KeyFollows (key_line (OfKey k) back (keys_of rows)) from None
+  pub follows_no_more : (rows : List (Elem × V)) (k : Elem) (back : Bool) (from : Option Elem) (l : Elem) → HasDistinctKeys rows → from ≡ Some l → Follows (key_line (Is k) back (keys_of rows)) from None
   follows_no_more rows k back from l d f = rw f (λ i is. ap (λ ks. slice_get (turned_if back ks) (i + 1)) (one_of k rows d) ∙ none_behind back k (value_at rows k) i)
 
--- ---- the lanes of no key, and of a window
+-- ---- no key asked for, and those in a window
 
 filter-none : {X : Type 0} (xs : List X) → filter (λ _. false) xs ≡ []
 filter-none [] = refl
 filter-none (x ∷ xs) = filter-none xs
 
-nothing_follows : (back : Bool) (from : Option Elem) → KeyFollows (turned_if back []) from None
+nothing_follows : (back : Bool) (from : Option Elem) → Follows (turned_if back []) from None
 nothing_follows back None = nothing_there back 0
 nothing_follows back (Some k) = λ i is. nothing_there back (i + 1)
 
-pub follows_nothing : (ks : List Elem) (lane : Lane) (back : Bool) (from : Option Elem) → lane ≡ Nothing → KeyFollows (key_line lane back ks) from None
-follows_nothing ks lane back from l = rw (l, filter-none ks) (nothing_follows back from)
+pub follows_nothing : (ks : List Elem) (ask : PartAsk) (back : Bool) (from : Option Elem) → ask ≡ Nothing → Follows (key_line ask back ks) from None
+follows_nothing ks ask back from l = rw (l, filter-none ks) (nothing_follows back from)
 
-pub no_window : (lane : Lane) (order : Order) (w : Window) → HasNoWindow lane → lane ≡ Within order w → ⊥
-no_window lane order w h e = subst HasNoWindow e h
+pub no_window : (ask : PartAsk) (order : Order) (w : Window) → HasNoWindow ask → ask ≡ Within order w → ⊥
+no_window ask order w h e = subst HasNoWindow e h
 
--- the test of a lane by window is that of the window
-pub window_test : (test : Elem → Elem → Bool) (lane : Lane) (order : Order) (w : Window) → HasWindowIn test lane → lane ≡ Within order w → takes_key lane ≡ lies_between test w.lo w.hi
-window_test test lane order w h e = let own : HasWindowIn test (Within order w) = subst (HasWindowIn test) e h in ap takes_key e ∙ ap (λ t. lies_between t w.lo w.hi) own.0
+-- the test that asks for a window is that of the window
+pub window_test : (test : Elem → Elem → Bool) (ask : PartAsk) (order : Order) (w : Window) → HasWindowIn test ask → ask ≡ Within order w → meets ask ≡ lies_between test w.lo w.hi
+window_test test ask order w h e = let own : HasWindowIn test (Within order w) = subst (HasWindowIn test) e h in ap meets e ∙ ap (λ t. lies_between t w.lo w.hi) own.0

@@ -1,66 +1,80 @@
 -- The line of a list is that of its indexes.
-use Rattle.std.proofs.Common.{◌≡◌, ℕ, ◌+◌, Bool, false, List, [], ◌∷◌, refl, ap, sym, ◌∙◌, subst}
-use Rattle.std.specs.Prelude.{filter, Option, Some, None, option_map, option_and_then}
+use Rattle.std.proofs.Common.{◌≡◌, ℕ, ◌+◌, Bool, true, false, cond, ◌&&◌, List, [], ◌∷◌, refl, ap, sym, ◌∙◌, subst}
+use Rattle.std.specs.Prelude.{Option, Some, None, option_map, option_and_then}
 use Rattle.elem.specs.declared.elements.Elem.{Elem}
 use Rattle.base_rows.specs.declared.base_rows.BaseRows.{BaseRows}
 use Rattle.base_rows.specs.declared.base_rows.BaseRows.TheVariants as types
 use Rattle.base_rows.specs.BaseRows.{base_line, kind_of, items}
+use Rattle.base_rows.specs.BaseSpots.{numbered}
 use Rattle.base_rows.specs.KeyLines.{index_at}
+use Rattle.view_laws.specs.declared.lanes.Lane.{Lane}
+use Rattle.view_laws.specs.declared.lanes.PartAsk.{PartAsk}
+use Rattle.view_laws.specs.declared.lanes.PartAsk.TheVariants.{Any, Is, Within, Nothing}
+use Rattle.view_laws.specs.declared.places.RowSpot.{RowSpot}
+use Rattle.view_laws.specs.declared.places.RowSpot.TheVariants.{Index}
+use Rattle.view_laws.specs.Following.{Follows, IsFrom}
+use Rattle.view_laws.specs.Lanes.{meets, takes, turned_if}
+use Rattle.view_laws.specs.RowPlaces.{spots_taken}
+use Rattle.view_laws.specs.Serving.{Serves, ServesKeys}
 use Rattle.vocabulary.specs.declared.items.Item.{Item}
-use Rattle.view_steps.specs.declared.lanes.Lane.{Lane}
-use Rattle.view_steps.specs.declared.lanes.Lane.TheVariants.{All, OfKey, Within, Nothing}
-use Rattle.view_laws.specs.declared.places.Found.{Found}
-use Rattle.view_steps.specs.declared.places.Place.{Place}
-use Rattle.view_steps.specs.declared.places.Place.TheVariants.{Index, Key}
-use Rattle.view_steps.specs.Lanes.{takes_at, Serves, Follows, IsFrom}
-use Rattle.view_laws.specs.Lanes.{turned_if}
-use Rattle.view_laws.specs.Places.{found_row}
-use Rattle.view_steps.specs.Places.{numbered, row_at}
-use Rattle.view_steps.proofs.ListLemmas.{filter-all}
-use Rattle.view_steps.proofs.TurnLemmas.{nothing_there}
-use Rattle.view_steps.proofs.MemberLemmas.{in_turned}
-use Rattle.view_steps.proofs.PlaceLemmas.{no_key_numbered}
+use Rattle.vocabulary.specs.Items.{key_of, second_of}
+use Rattle.base_rows.proofs.KeyedRows.{index_in_list}
+use Rattle.base_rows.proofs.MemberLemmas.{in_turned}
+use Rattle.base_rows.proofs.TurnLemmas.{nothing_there}
 
-pub list_line : (r : BaseRows) (rows : List Elem) (lane : Lane) (back : Bool) → r ≡ types.ArrayList rows → lane ≡ All → base_line r lane back ≡ turned_if back (numbered 0 (items rows))
-list_line r rows lane back e l = (λ i. base_line (e i) (l i) back) ∙ ap (turned_if back) (filter-all (numbered 0 (items rows)))
+all_taken : (test : Item → Bool) (n : ℕ) (rows : List Item) → ((row : Item) → test row ≡ true) → spots_taken test (numbered n rows) rows ≡ numbered n rows
+all_taken test n [] all = refl
+all_taken test n (row ∷ rows) all =
+    ap (λ b. cond b (Index n ∷ spots_taken test (numbered (n + 1) rows) rows) (spots_taken test (numbered (n + 1) rows) rows)) (all row) ∙ ap (λ spots. Index n ∷ spots) (all_taken test (n + 1) rows all)
 
--- a place of a list is an index
-pub from_index : (rows : List Item) (back : Bool) (from : Option Place) → IsFrom (turned_if back (numbered 0 rows)) from → from ≡ option_map Index (option_and_then index_at from)
+none_taken : (test : Item → Bool) (n : ℕ) (rows : List Item) → ((row : Item) → test row ≡ false) → spots_taken test (numbered n rows) rows ≡ []
+none_taken test n [] none = refl
+none_taken test n (row ∷ rows) none =
+    ap (λ b. cond b (Index n ∷ spots_taken test (numbered (n + 1) rows) rows) (spots_taken test (numbered (n + 1) rows) rows)) (none row) ∙ none_taken test (n + 1) rows none
+
+takes_all : (lane : Lane) (row : Item) → lane.first ≡ Any → lane.second ≡ Any → takes lane row ≡ true
+takes_all lane row first second = λ i. meets (first i) (key_of row) && meets (second i) (second_of row)
+
+takes_none : (lane : Lane) (row : Item) → lane.first ≡ Nothing → takes lane row ≡ false
+takes_none lane row first = ap (λ ask. meets ask (key_of row) && meets lane.second (second_of row)) first
+
+pub list_line : (r : BaseRows) (rows : List Elem) (lane : Lane) (back : Bool) → r ≡ types.ArrayList rows → lane.first ≡ Any → lane.second ≡ Any → base_line r lane back ≡ turned_if back (numbered 0 (items rows))
+list_line r rows lane back e first second = ap (λ x. base_line x lane back) e ∙ ap (turned_if back) (all_taken (takes lane) 0 (items rows) (λ row. takes_all lane row first second))
+
+pub no_line : (r : BaseRows) (rows : List Elem) (lane : Lane) (back : Bool) → r ≡ types.ArrayList rows → lane.first ≡ Nothing → base_line r lane back ≡ turned_if back []
+no_line r rows lane back e first = ap (λ x. base_line x lane back) e ∙ ap (turned_if back) (none_taken (takes lane) 0 (items rows) (λ row. takes_none lane row first))
+
+-- a spot of a list is an index
+from_index : (rows : List Item) (back : Bool) (from : Option RowSpot) → IsFrom (turned_if back (numbered 0 rows)) from → from ≡ option_map Index (option_and_then index_at from)
 from_index rows back None h = refl
-from_index rows back (Some (Index i)) h = refl
-from_index rows back (Some (Key k)) h = let there = in_turned back (numbered 0 rows) (Key k) h.0 h.1 in absurd (no_key_numbered 0 rows there.0 k there.1)
+from_index rows back (Some s) h =
+    let at = index_in_list rows s (in_turned back (numbered 0 rows) s h.0 h.1) in
+    ap Some at.1 ∙ ap (λ t. option_map Index (index_at t)) (sym at.1)
 
-from_in_indexes : (r : BaseRows) (rows : List Elem) (lane : Lane) (back : Bool) (from : Option Place) → r ≡ types.ArrayList rows → lane ≡ All → IsFrom (base_line r lane back) from → from ≡ option_map Index (option_and_then index_at from)
-from_in_indexes r rows lane back from e l h = from_index (items rows) back from (subst (λ ps. IsFrom ps from) (list_line r rows lane back e l) h)
+module _ (r : BaseRows) (rows : List Elem) (lane : Lane) (back : Bool) (from : Option RowSpot) (e : r ≡ types.ArrayList rows) (first : lane.first ≡ Any) (second : lane.second ≡ Any) (at : IsFrom (base_line r lane back) from) where
+  in_list : IsFrom (turned_if back (numbered 0 (items rows))) from
+  in_list = subst (λ spots. IsFrom spots from) (list_line r rows lane back e first second) at
 
-pub from_list : (r : BaseRows) (rows : List Elem) (lane : Lane) (back : Bool) (from : Option Place) → r ≡ types.ArrayList rows → lane ≡ All → IsFrom (base_line r lane back) from
-    → IsFrom (turned_if back (numbered 0 (items rows))) (option_map Index (option_and_then index_at from))
-from_list r rows lane back from e l h = subst (IsFrom (turned_if back (numbered 0 (items rows)))) (from_in_indexes r rows lane back from e l h) (subst (λ ps. IsFrom ps from) (list_line r rows lane back e l) h)
+  from_is : from ≡ option_map Index (option_and_then index_at from)
+  from_is = from_index (items rows) back from in_list
 
-pub follows_in_list : (r : BaseRows) (rows : List Elem) (lane : Lane) (back : Bool) (from : Option Place) (to : Option ℕ) → r ≡ types.ArrayList rows → lane ≡ All → IsFrom (base_line r lane back) from
-    → Follows (turned_if back (numbered 0 (items rows))) (option_map Index (option_and_then index_at from)) (option_map Index to) → Follows (base_line r lane back) from (option_map Index to)
-follows_in_list r rows lane back from to e l h n =
-    subst (λ ps. Follows ps from (option_map Index to)) (sym (list_line r rows lane back e l))
-    (subst (λ f. Follows (turned_if back (numbered 0 (items rows))) f (option_map Index to)) (sym (from_in_indexes r rows lane back from e l h)) n)
+  pub from_list : IsFrom (turned_if back (numbered 0 (items rows))) (option_map Index (option_and_then index_at from))
+  from_list = subst (IsFrom (turned_if back (numbered 0 (items rows)))) from_is in_list
 
-takes_nothing : (o : Option Found) → takes_at Nothing o ≡ false
-takes_nothing None = refl
-takes_nothing (Some d) = refl
+  pub follows_in_list : (to : Option RowSpot) → Follows (turned_if back (numbered 0 (items rows))) (option_map Index (option_and_then index_at from)) to → Follows (base_line r lane back) from to
+  follows_in_list to n =
+      subst (λ spots. Follows spots from to) (sym (list_line r rows lane back e first second)) (subst (λ f. Follows (turned_if back (numbered 0 (items rows))) f to) (sym from_is) n)
 
-nothing_taken : (at : Place → Option Found) (ps : List Place) → filter (λ p. takes_at Nothing (at p)) ps ≡ []
-nothing_taken at [] = refl
-nothing_taken at (p ∷ ps) = rw (takes_nothing (at p)) (nothing_taken at ps)
-
-nothing_follows : (back : Bool) (from : Option Place) → Follows (turned_if back []) from None
+nothing_follows : (back : Bool) (from : Option RowSpot) → Follows (turned_if back []) from None
 nothing_follows back None = nothing_there back 0
-nothing_follows back (Some p) = λ i is. nothing_there back (i + 1)
+nothing_follows back (Some s) = λ i is. nothing_there back (i + 1)
 
--- a list serves the lane of all, and that of none
-pub list_serves : (r : BaseRows) (rows : List Elem) (lane : Lane) (back : Bool) (from : Option Place) → r ≡ types.ArrayList rows → Serves (kind_of r) lane → (lane ≡ All → ⊥) → Follows (base_line r lane back) from None
-list_serves r rows lane back from e serves other = rw e (by lane (subst (λ x. Serves (kind_of x) lane) e serves) other)
+-- a list serves a lane of all its rows, and one of none
+pub list_serves : (r : BaseRows) (rows : List Elem) (lane : Lane) (back : Bool) (from : Option RowSpot) → r ≡ types.ArrayList rows → Serves (kind_of r) lane → (lane.first ≡ Any → ⊥) → Follows (base_line r lane back) from None
+list_serves r rows lane back from e serves other = by lane.first refl (subst (λ x. ServesKeys (kind_of x) lane.first) e serves.keys)
   where
-    by : (lane : Lane) → Serves (kind_of (types.ArrayList rows)) lane → (lane ≡ All → ⊥) → Follows (base_line (types.ArrayList rows) lane back) from None
-    by All s other = absurd (other refl)
-    by (OfKey k) s other = cc
-    by (Within order w) s other = let never = s.0 in cc
-    by Nothing s other = subst (λ ps. Follows (turned_if back ps) from None) (sym (nothing_taken (λ p. option_map found_row (row_at (items rows) p)) (numbered 0 (items rows)))) (nothing_follows back from)
+    by : (ask : PartAsk) → lane.first ≡ ask → ServesKeys (kind_of (types.ArrayList rows)) ask → Follows (base_line r lane back) from None
+    by Any is s = absurd (other is)
+    by (Is k) is s = cc
+    by (Within order w) is s = let never = s.0 in cc
+    by Nothing is s = subst (λ spots. Follows spots from None) (sym (no_line r rows lane back e is)) (nothing_follows back from)

@@ -13,8 +13,8 @@ use Rattle.vocabulary.specs.declared.items.Item.TheVariants.{One}
 use Rattle.vocabulary.specs.declared.kinds.Kind.TheVariants.{ArrayList}
 use Rattle.machine.specs.Placing.{placed}
 use Rattle.machine.specs.Edits.{coming, placed_all}
-use Rattle.view_steps.proofs.ListLemmas.{filter-map}
-use Rattle.view_steps.proofs.PlacedRows.{placed-last, Stands, own_all, before_all, more_rows, taken_back}
+use Rattle.view_laws.proofs.ListLemmas.{filter-map}
+use Rattle.base_rows.proofs.PlacedInList.{placed-last, Stands, own_all, before_all, more_rows, taken_back}
 
 -- ---- cuts of any list
 

@@ -11,8 +11,9 @@ use Rattle.elem.specs.ElementLaws.{same-Decides}
 use Rattle.elem.specs.Orders.{IsStrictOrder}
 use Rattle.elem.specs.Rows.{first_key}
 use Rattle.plain_base.specs.Sorted.{ComesFirst, IsInOrder, rows_above, rows_between}
-use Rattle.view_steps.proofs.ListLemmas.{filter-all, filter-filter, filter-same, fewer, both}
-use Rattle.view_steps.proofs.MemberLemmas.{StandsIn, passes_filter, in_kept}
+use Rattle.view_laws.proofs.ListLemmas.{filter-all, filter-filter, both_true}
+use Rattle.base_rows.proofs.ListLemmas.{filter-same, fewer}
+use Rattle.base_rows.proofs.MemberLemmas.{StandsIn, passes_filter, in_kept}
 use Rattle.base_rows.proofs.KeyDrops.{but_key}
 use Rattle.base_rows.proofs.WindowLines.{behind, rows_behind, in_order-filter}
 
@@ -66,7 +67,7 @@ module _ {V : Type 0} {before : Elem → Elem → Bool} (o : IsStrictOrder befor
 
   -- a window that begins behind its first key does not end before it starts
   pub rest_after : (lo hi : Cut) (k : Elem) (rows : List (Elem × V)) → Some k ≡ first_key (rows_between before lo hi rows) → cut_upto before (Above k) hi ≡ true
-  rest_after lo hi k rows first = (both (cut_upto before lo (Below k)) (cut_upto before (Above k) hi) (first_inside lo hi k rows first)).1
+  rest_after lo hi k rows first = (both_true (cut_upto before lo (Below k)) (cut_upto before (Above k) hi) (first_inside lo hi k rows first)).1
 
   module _ (test : Elem × V → Bool) where
     in_window : (lo hi : Cut) (rows : List (Elem × V)) → rows_between before lo hi (gone_outside before test lo hi rows) ≡ rows_between before lo hi rows
@@ -94,7 +95,7 @@ module _ {V : Type 0} {before : Elem → Elem → Bool} (o : IsStrictOrder befor
         let part : List (Elem × V) = rows_between before lo hi old in
         let head : Some k ≡ first_key part = first_there lo hi old now (Some k) e first in
         let inside : lies_between before lo hi k ≡ true = first_inside lo hi k old head in
-        let low : cut_upto before lo (Below k) ≡ true = (both (cut_upto before lo (Below k)) (cut_upto before (Above k) hi) inside).0 in
+        let low : cut_upto before lo (Below k) ≡ true = (both_true (cut_upto before lo (Below k)) (cut_upto before (Above k) hi) inside).0 in
         f ∙ ap (but_key k test) e
         ∙ filter-filter (λ (row : Elem × V). not (same k row.0 && test row)) (λ (row : Elem × V). lies_between before lo hi row.0 || not (test row)) old
         ∙ filter-same (λ (row : Elem × V). (lies_between before lo hi row.0 || not (test row)) && not (same k row.0 && test row)) (λ (row : Elem × V). lies_between before (Above k) hi row.0 || not (test row)) old
@@ -109,7 +110,7 @@ module _ {V : Type 0} {before : Elem → Elem → Bool} (o : IsStrictOrder befor
     pub fewer_in_rest : (lo hi : Cut) (k : Elem) (old now : List (Elem × V)) → now ≡ gone_outside before test lo hi old → Some k ≡ first_key (rows_between before lo hi now) → length (rows_between before (Above k) hi old) < length (rows_between before lo hi old)
     fewer_in_rest lo hi k old now e first =
         let head : Some k ≡ first_key (rows_between before lo hi old) = first_there lo hi old now (Some k) e first in
-        let low : cut_upto before lo (Below k) ≡ true = (both (cut_upto before lo (Below k)) (cut_upto before (Above k) hi) (first_inside lo hi k old head)).0 in
+        let low : cut_upto before lo (Below k) ≡ true = (both_true (cut_upto before lo (Below k)) (cut_upto before (Above k) hi) (first_inside lo hi k old head)).0 in
         subst (λ (rows : List (Elem × V)). length rows < length (rows_between before lo hi old)) (rows_behind o lo hi k old low) (above (rows_between before lo hi old) head)
       where
         above : (part : List (Elem × V)) → Some k ≡ first_key part → length (rows_above before k part) < length part

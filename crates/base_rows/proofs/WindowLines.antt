@@ -15,9 +15,10 @@ use Rattle.elem.specs.Rows.{first_key, last_key}
 use Rattle.plain_base.specs.Sorted.{ComesFirst, IsInOrder, rows_above, rows_below, rows_between}
 use Rattle.plain_base.proofs.SortedLemmas.{key_after-above, key_before-below}
 use Rattle.view_laws.specs.Lanes.{turned_if}
-use Rattle.view_steps.proofs.ListLemmas.{filter-filter, filter-map, and-true, and-false, both}
-use Rattle.view_steps.proofs.MemberLemmas.{in_turned, passes_filter}
-use Rattle.base_rows.specs.KeyLines.{rest_of, IsKeyFrom, KeyFollows}
+use Rattle.view_laws.specs.Following.{Follows, IsFrom}
+use Rattle.view_laws.proofs.ListLemmas.{filter-filter, filter-map, and-true, and-false, both_true}
+use Rattle.base_rows.specs.KeyLines.{rest_of}
+use Rattle.base_rows.proofs.MemberLemmas.{in_turned, passes_filter}
 use Rattle.base_rows.proofs.KeyLemmas.{first_at, last_at, after_at, before_from_back, present_at}
 
 twice : (b : Bool) → not (not b) ≡ b
@@ -107,20 +108,20 @@ module _ {before : Elem → Elem → Bool} (o : IsStrictOrder before) where
     window_line w back rows = turned_if back (filter (lies_between before w.lo w.hi) (keys_of rows))
 
     -- a key of the window lies in it
-    inside : (w : Window) (back : Bool) (rows : List (Elem × V)) (k : Elem) → IsKeyFrom (window_line w back rows) (Some k) → (cut_upto before w.lo (Below k) ≡ true) × (cut_upto before (Above k) w.hi ≡ true)
+    inside : (w : Window) (back : Bool) (rows : List (Elem × V)) (k : Elem) → IsFrom (window_line w back rows) (Some k) → (cut_upto before w.lo (Below k) ≡ true) × (cut_upto before (Above k) w.hi ≡ true)
     inside w back rows k at =
         let there = in_turned back (filter (lies_between before w.lo w.hi) (keys_of rows)) k at.0 at.1 in
-        both (cut_upto before w.lo (Below k)) (cut_upto before (Above k) w.hi) (passes_filter (lies_between before w.lo w.hi) (keys_of rows) k there.0 there.1)
+        both_true (cut_upto before w.lo (Below k)) (cut_upto before (Above k) w.hi) (passes_filter (lies_between before w.lo w.hi) (keys_of rows) k there.0 there.1)
 
     -- the rest of a window does not end before it starts
-    pub rest_is_window : (w : Window) (back : Bool) (rows : List (Elem × V)) (from : Option Elem) → cut_upto before w.lo w.hi ≡ true → IsKeyFrom (window_line w back rows) from
+    pub rest_is_window : (w : Window) (back : Bool) (rows : List (Elem × V)) (from : Option Elem) → cut_upto before w.lo w.hi ≡ true → IsFrom (window_line w back rows) from
         → cut_upto before (rest_of w back from).lo (rest_of w back from).hi ≡ true
     rest_is_window w back rows None h at = h
     rest_is_window w true rows (Some k) h at = (inside w true rows k at).0
     rest_is_window w false rows (Some k) h at = (inside w false rows k at).1
 
-    pub window_first : (w : Window) (rows : List (Elem × V)) (from r : Option Elem) → IsInOrder before rows → HasDistinctKeys rows → IsKeyFrom (window_line w false rows) from
-        → r ≡ first_key (rows_between before (rest_of w false from).lo (rest_of w false from).hi rows) → KeyFollows (window_line w false rows) from r
+    pub window_first : (w : Window) (rows : List (Elem × V)) (from r : Option Elem) → IsInOrder before rows → HasDistinctKeys rows → IsFrom (window_line w false rows) from
+        → r ≡ first_key (rows_between before (rest_of w false from).lo (rest_of w false from).hi rows) → Follows (window_line w false rows) from r
     window_first w rows None r s d at e =
         ap (λ ks. slice_get ks 0) (sym (keys_between (lies_between before w.lo w.hi) rows)) ∙ first_at (rows_between before w.lo w.hi rows) ∙ sym e
     window_first w rows (Some k) r s d at e = λ i is.
@@ -132,8 +133,8 @@ module _ {before : Elem → Elem → Bool} (o : IsStrictOrder before) where
         ∙ key_after-above o k part (in_order-filter before (λ (row : Elem × V). lies_between before w.lo w.hi row.0) rows s) (present_at part i k here)
         ∙ ap first_key (rows_behind w.lo w.hi k rows (inside w false rows k at).0) ∙ sym e
 
-    pub window_last : (w : Window) (rows : List (Elem × V)) (from r : Option Elem) → IsInOrder before rows → HasDistinctKeys rows → IsKeyFrom (window_line w true rows) from
-        → r ≡ last_key (rows_between before (rest_of w true from).lo (rest_of w true from).hi rows) → KeyFollows (window_line w true rows) from r
+    pub window_last : (w : Window) (rows : List (Elem × V)) (from r : Option Elem) → IsInOrder before rows → HasDistinctKeys rows → IsFrom (window_line w true rows) from
+        → r ≡ last_key (rows_between before (rest_of w true from).lo (rest_of w true from).hi rows) → Follows (window_line w true rows) from r
     window_last w rows None r s d at e =
         ap (λ ks. slice_get (reverse ks) 0) (sym (keys_between (lies_between before w.lo w.hi) rows)) ∙ last_at (rows_between before w.lo w.hi rows) ∙ sym e
     window_last w rows (Some k) r s d at e = λ i is.

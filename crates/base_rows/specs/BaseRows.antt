@@ -1,6 +1,7 @@
 -- What the types of the bases mean as rows.
-use Rattle.std.specs.Prelude.{◌≡◌, ℕ, ◌<◌, ◌≤◌, Bool, false, List, [], ◌∷◌, map, option_map}
+use Rattle.std.specs.Prelude.{◌≡◌, ℕ, ◌<◌, ◌≤◌, Bool, false, List, [], ◌∷◌, map}
 use Rattle.elem.specs.declared.elements.Elem.{Elem}
+use Rattle.base_rows.specs.BaseSpots.{spots_of}
 use Rattle.base_rows.specs.declared.base_rows.BaseRows.{BaseRows}
 use Rattle.base_rows.specs.declared.base_rows.BaseRows.TheVariants as types
 use Rattle.vocabulary.specs.declared.edits.Spot.{Spot}
@@ -9,14 +10,12 @@ use Rattle.vocabulary.specs.declared.items.Item.{Item}
 use Rattle.vocabulary.specs.declared.items.Item.TheVariants.{One, Entry}
 use Rattle.vocabulary.specs.declared.kinds.Kind.{Kind}
 use Rattle.vocabulary.specs.declared.kinds.Kind.TheVariants as kind
-use Rattle.view_steps.specs.declared.lanes.Lane.{Lane}
-use Rattle.view_steps.specs.declared.places.Place.{Place}
+use Rattle.view_laws.specs.declared.lanes.Lane.{Lane}
+use Rattle.view_laws.specs.declared.places.RowSpot.{RowSpot}
 use Rattle.vocabulary.specs.declared.shapes.Shape.{Shape}
 use Rattle.vocabulary.specs.declared.shapes.Shape.TheVariants as shape
 use Rattle.vocabulary.specs.Kinds.{shape_of_kind}
-use Rattle.view_steps.specs.Lanes.{line_of}
-use Rattle.view_laws.specs.Places.{found_row}
-use Rattle.view_steps.specs.Places.{places_of, row_at}
+use Rattle.view_laws.specs.BaseLines.{spot_line}
 use Rattle.vocabulary.specs.Shapes.{is_keyed}
 use Rattle.machine.specs.Bases.{Base}
 
@@ -62,9 +61,12 @@ rows_of (types.TreeMapLength rows) = entries rows
 abbrev pub plain : BaseRows → Base
 plain r = record { kind = kind_of r; rows = rows_of r; keys = []; change = 0; frozen = false }
 
--- the places of the rows in a lane, from the front or from the back
-abbrev pub base_line : BaseRows → Lane → Bool → List Place
-base_line r lane back = line_of lane back (λ p. option_map found_row (row_at (rows_of r) p)) (places_of (plain r))
+-- the spots of the rows, and those of them in a lane, from the front or from the back
+abbrev pub base_spots : BaseRows → List RowSpot
+base_spots r = spots_of (kind_of r) (rows_of r)
+
+abbrev pub base_line : BaseRows → Lane → Bool → List RowSpot
+base_line r lane back = spot_line (base_spots r) (rows_of r) lane back
 
 -- a row of a list or a set is an element, and one of a map an entry
 abbrev pub IsRowIn : Shape → Item → Type 0

@@ -3,3 +3,4 @@ pub mod BaseRows
 pub mod KeyLines
 pub mod Journals
 pub mod Reaches
+pub mod BaseSpots

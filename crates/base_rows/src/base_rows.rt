@@ -1,8 +1,10 @@
 //! The rows of a base, in the type of its kind.
 ghost use Rattle.std.specs.Prelude.{◌≡◌, [], length, true, IfOk};
 ghost use Rattle.base_rows.specs.BaseRows.{kind_of, plain, rows_of, AreRowsOf};
-ghost use Rattle.view_steps.specs.Places.{HasKeys};
+ghost use Rattle.base_rows.specs.BaseSpots.{HasKeys};
+ghost use Rattle.vocabulary.specs.Kinds.{shape_of_kind};
 ghost use Rattle.vocabulary.specs.Known.{is_known_kind};
+ghost use Rattle.vocabulary.specs.Shapes.{is_keyed};
 
 mod dropping;
 mod placing;
@@ -89,4 +91,11 @@ impl BaseRows {
     pub fn rows_fit(&self)
         ensures { AreRowsOf (kind_of self.now) (rows_of self.now) }
     {}
+
+    /// Whether no two rows have the same key, by which each is found.
+    pub fn goes_by_key(&self) -> bool
+        ensures { result ≡ is_keyed (shape_of_kind (kind_of self.now)) }
+    {
+        !matches!(self, BaseRows::ArrayList(_))
+    }
 }

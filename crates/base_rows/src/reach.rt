@@ -1,7 +1,7 @@
 //! Where a removal looks for the rows that go.
 
 use linked_base::FreeLinkedMap;
-use view_steps::Lane;
+use view_laws::Lane;
 
 /// The rows at which a removal looks. Outside of them none goes.
 #[derive(Clone, Copy)]

@@ -14,10 +14,10 @@ use Rattle.view_steps.specs.RowHits.{is_row_hit}
 use Rattle.machine.specs.Bases.{Base, World, base_at}
 use Rattle.machine.specs.Leaves.{leaf_at}
 use Rattle.machine.specs.Views.{View, base_under, candidates, shown}
-use Rattle.view_steps.proofs.KnownLemmas.{known_base}
 use Rattle.view_steps.proofs.ListLemmas.{fewer}
-use Rattle.view_steps.proofs.RowHits.{without_hits}
+use Rattle.view_steps.proofs.KnownLemmas.{known_base}
 use Rattle.view_steps.proofs.RowLemmas.{shown_law}
+use Rattle.view_steps.proofs.RowHits.{without_hits}
 use Rattle.view_steps.proofs.WorldLemmas.{written_at}
 
 less_than_more : (a b : ℕ) → a ≤ b → nat_lt a (suc b) ≡ true

@@ -10,15 +10,16 @@ use Rattle.machine.specs.Edits.{Edit, edited}
 use Rattle.view_steps.specs.KnownViews.{edited_at, is_known, is_known_view, number_under}
 use Rattle.machine.specs.MadeViews.{IsMade, IsStepOn}
 use Rattle.vocabulary.specs.Limits.{most_rows}
-use Rattle.view_steps.specs.Places.{HasKeys}
+use Rattle.base_rows.specs.BaseSpots.{HasKeys}
 use Rattle.machine.specs.Bases.{Base, World, base_at, empty_base}
 use Rattle.machine.specs.Leaves.{stored}
 use Rattle.machine.specs.Views.{View, base, over, path}
 use Rattle.vocabulary.specs.Known.{is_known_kind}
 use Rattle.view_steps.proofs.KnownLemmas.{known_over, one_step}
+use Rattle.view_steps.proofs.WorldLemmas.{more_at, written_at, written_kind}
+use Rattle.view_steps.proofs.CountLemmas.{rows_in-at, rows_in-more, rows_in-written}
 use Rattle.view_steps.proofs.MadeLemmas.{view_stays}
-use Rattle.view_steps.proofs.CountLemmas.{rows_in-written, rows_in-at, rows_in-more}
-use Rattle.view_steps.proofs.WorldLemmas.{empty_keys, no_base, more_at, more_keys, written_at, written_keys, written_kind}
+use Rattle.base_store.proofs.KeyedWorlds.{empty_keys, more_keys, no_base, written_keys}
 use Rattle.base_store.specs.declared.store.Made.{Made}
 use Rattle.base_store.specs.declared.store.Made.TheVariants as made
 use Rattle.base_store.specs.declared.store.facts.Facts.{Facts}

@@ -13,11 +13,11 @@ use Rattle.machine.specs.Leaves.{leaf_at}
 use Rattle.machine.specs.Views.{View, base, both, over, base_under, shape_at, shape_after, flags_at}
 use Rattle.view_steps.specs.KnownViews.{is_known_view, number_under}
 use Rattle.view_steps.proofs.KnownLemmas.{known_base, known_over}
+use Rattle.view_steps.proofs.WorldLemmas.{written_at}
 use Rattle.base_store.specs.declared.store.Made.{Made}
 use Rattle.base_store.specs.declared.store.facts.Facts.{Facts}
 use Rattle.base_store.specs.Facts.{AreFactsOf, facts_at}
 use Rattle.base_store.specs.Nodes.{view_at}
-use Rattle.view_steps.proofs.WorldLemmas.{written_at}
 use Rattle.base_store.proofs.NodeLemmas.{in_front}
 use Rattle.base_store.proofs.ViewLemmas.{view_at-append, view_at-take}
 

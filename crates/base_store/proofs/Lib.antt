@@ -1,8 +1,14 @@
 pub mod ViewLemmas
 pub mod NodeLemmas
+pub mod KeyedWorlds
+pub mod RoomLemmas
 pub mod FactLemmas
 pub mod BuiltLemmas
 pub mod ShownLemmas
-pub mod LaneLemmas
+pub mod SpotLemmas
+pub mod FormLemmas
+pub mod EachLemmas
+pub mod CourseLemmas
+pub mod ReachLemmas
 pub mod AnyShown
 pub mod KeptLemmas

@@ -14,8 +14,8 @@ use Rattle.base_store.specs.Hits.{StandBelow}
 use Rattle.base_store.specs.Nodes.{view_at}
 use Rattle.base_store.proofs.ViewLemmas.{view_at-node}
 use Rattle.view_steps.specs.KnownViews.{is_known, is_known_view}
+use Rattle.view_steps.proofs.RowHits.{found_step, through}
 use Rattle.view_steps.proofs.KnownLemmas.{known_family, known_over}
-use Rattle.view_steps.proofs.RowHits.{through, found_step}
 
 -- a base has each row as it is
 pub found_base : (nodes : List Made) (n b : ℕ) (row : Item) → StandBelow nodes → slice_get nodes n ≡ Some (made.Base b) → found_of_row (form_of (view_at nodes n)) row ≡ Some (record { item = row; seen = true })

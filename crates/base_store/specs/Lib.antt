@@ -3,7 +3,7 @@ pub mod Limits
 pub mod Nodes
 pub mod Stored
 pub mod Unfolding
-pub mod BaseLanes
+pub mod Courses
 pub mod Facts
 pub mod NodeLists
 pub mod KeptSteps

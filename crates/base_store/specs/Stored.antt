@@ -10,7 +10,7 @@ use Rattle.vocabulary.specs.declared.kinds.Kind.{Kind}
 use Rattle.machine.specs.RowCounts.{rows_in}
 use Rattle.vocabulary.specs.Limits.{most_rows}
 use Rattle.machine.specs.MadeViews.{IsMade}
-use Rattle.view_steps.specs.Places.{HasKeys}
+use Rattle.base_rows.specs.BaseSpots.{HasKeys}
 use Rattle.machine.specs.Bases.{World, base_at, empty_base}
 use Rattle.machine.specs.Views.{View}
 use Rattle.view_steps.specs.KnownViews.{is_known_view}

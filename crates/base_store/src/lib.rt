@@ -8,4 +8,4 @@ mod refs;
 mod store;
 
 pub use refs::{AnyRef, BaseId, Node};
-pub use store::Store;
+pub use store::{Course, Store};

@@ -11,7 +11,11 @@ ghost use Rattle.machine.specs.KeptSteps.{order_at, window_at};
 ghost use Rattle.machine.specs.MadeViews.{IsKept, IsMade};
 ghost use Rattle.machine.specs.RowCounts.{rows_in};
 ghost use Rattle.vocabulary.specs.Limits.{most_rows};
-ghost use Rattle.view_steps.specs.Places.{HasKeys};
+ghost use Rattle.base_rows.specs.BaseSpots.{HasKeys};
+ghost use Rattle.base_store.specs.Courses.{spots_in};
+ghost use Rattle.view_laws.specs.ItemForms.{IsFormed};
+ghost use Rattle.view_laws.specs.RowForm.{is_by_row};
+ghost use Rattle.view_laws.specs.Spots.{TellAll};
 ghost use Rattle.vocabulary.specs.Known.{is_known_kind};
 ghost use Rattle.vocabulary.specs.StepShapes.{apply};
 ghost use Rattle.machine.specs.Views.{base, over, path, shape_at, flags_at};
@@ -20,6 +24,7 @@ ghost use Rattle.machine.specs.Leaves.{stored};
 ghost use Rattle.machine.specs.Bases.{base_at, empty_base};
 ghost use Rattle.view_steps.specs.Turning.{turned};
 
+mod courses;
 mod dropping;
 mod facts;
 mod kept;
@@ -31,6 +36,7 @@ mod writing;
 
 use crate::{AnyRef, BaseId, Node};
 use base_rows::BaseRows;
+pub use courses::Course;
 use elem::{NoMemory, Window};
 use facts::Facts;
 use nodes::Nodes;
@@ -229,6 +235,19 @@ impl Store {
         // What is sound about a store is known once a field of it is read.
         let _ = &self.alloc;
         BaseId::at(self.facts(n).base)
+    }
+
+    /// Does nothing; its contract says that the laws of views that go row by row hold of a node: its rows and items have
+    /// their forms, and spots tell the rows of each base apart.
+    pub fn is_lawful(&self, n: AnyRef)
+        requires { n < length self.now.nodes }
+        ensures formed { IsFormed self.now.world (view_in self.now n) }
+        ensures by_row { is_by_row self.now.world (view_in self.now n) ≡ true }
+        ensures tell { TellAll self.now.world (spots_in self.now.world) }
+    {
+        // What is sound about a store is known once a field of it is read.
+        let _ = &self.alloc;
+        self.rows_fit(self.base_of(n));
     }
 
     /// How many steps lead to a node.

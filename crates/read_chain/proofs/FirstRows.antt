@@ -6,7 +6,7 @@ use Rattle.std.proofs.lemmas.Bool.Decides.{nat_tests}
 use Rattle.vocabulary.specs.declared.items.Item.{Item}
 use Rattle.machine.specs.CallEdits.{first_hit, is_hit, rows_of_first}
 use Rattle.machine.specs.Candidates.{Candidate, hidden, of_rows}
-use Rattle.view_steps.proofs.ListLemmas.{and-false}
+use Rattle.view_laws.proofs.ListLemmas.{and-false}
 
 -- the first row, or one that stands behind it
 at_first : (p : Item → Bool) (row : Item) (rows : List Item) → position p (row ∷ rows) ≡ cond (p row) (Some 0) (option_map (λ (i : ℕ). 1 + i) (position p rows))

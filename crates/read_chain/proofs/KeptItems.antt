@@ -12,10 +12,9 @@ use Rattle.machine.specs.Candidates.{changed, cut, hidden, of_rows}
 use Rattle.machine.specs.Views.{View, base, both, over}
 use Rattle.read_chain.specs.ListLookUps.{keeps_items, makes_others}
 use Rattle.view_laws.specs.Lanes.{turned_if}
-use Rattle.view_laws.specs.RowForm.{RowForm, candidates_by, form_of, form_over, found_row_by, shown_by}
-use Rattle.view_steps.specs.Places.{found_by_steps, found_over}
-use Rattle.view_steps.proofs.ListLemmas as lists
-use Rattle.view_steps.proofs.ListLemmas.{and-false, filter-all}
+use Rattle.view_laws.specs.RowForm.{RowForm, candidates_by, form_of, form_over, shown_by}
+use Rattle.view_laws.proofs.ListLemmas as lists
+use Rattle.view_laws.proofs.ListLemmas.{filter-all}
 
 -- each row is a candidate, and is what it shows
 pub record KeepsRows (f : RowForm) : Type 0 where
@@ -33,24 +32,12 @@ not_so true e = sym e
 not_so false e = refl
 
 none_made : (step : Step) (v : View) → keeps_items (over step v) ≡ true → (makes_others (family_of step) ≡ false) × (keeps_items v ≡ true)
-none_made step v h = let parts = lists.both (not (makes_others (family_of step))) (keeps_items v) h in (not_so (makes_others (family_of step)) parts.0, parts.1)
+none_made step v h = let parts = lists.both_true (not (makes_others (family_of step))) (keeps_items v) h in (not_so (makes_others (family_of step)) parts.0, parts.1)
 
 pub form_kept : (v : View) → keeps_items v ≡ true → KeepsRows (form_of v)
 form_kept (base l) h = record { takes = λ row. refl; item = λ row. refl }
 form_kept (over step v) h = let parts = none_made step v h in over_kept (family_of step) step (form_of v) parts.0 (form_kept v parts.1)
 form_kept (both word v u) h = absurd (cc)
-
--- what the steps make of a row is what the form has of it
-over_found : (family : Family) (step : Step) (f : RowForm) (row : Item) → makes_others family ≡ false → found_over family step (found_row_by f row) ≡ found_row_by (form_over family step f) row
-over_found Same step f row h = refl
-over_found Turned step f row h = refl
-over_found Hidden step f row h = refl
-over_found _ step f row h = absurd (cc)
-
-pub found_form : (v : View) (row : Item) → keeps_items v ≡ true → found_by_steps v row ≡ found_row_by (form_of v) row
-found_form (base l) row h = refl
-found_form (over step v) row h = let parts = none_made step v h in ap (found_over (family_of step) step) (found_form v row parts.1) ∙ over_found (family_of step) step (form_of v) row parts.0
-found_form (both word v u) row h = absurd (cc)
 
 -- ---- what is shown
 

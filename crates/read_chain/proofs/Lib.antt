@@ -1,6 +1,9 @@
 pub mod UnderLemmas
 pub mod ShapeLemmas
+pub mod Along
 pub mod WalkLemmas
+pub mod CourseLemmas
+pub mod KeyCourses
 pub mod LookUpLemmas
 pub mod FindLemmas
 pub mod ListViewLemmas

@@ -5,7 +5,7 @@ use Rattle.std.specs.Option.{option_to_list}
 use Rattle.read_chain.specs.Walks.{is_seen_there, item_there, seen_items}
 use Rattle.vocabulary.specs.declared.items.Item.{Item}
 use Rattle.view_laws.specs.declared.places.Found.{Found}
-use Rattle.view_steps.proofs.ListLemmas.{filter-filter, filter-map}
+use Rattle.view_laws.proofs.ListLemmas.{filter-filter, filter-map}
 
 -- ---- what is shown at a key
 

@@ -1,4 +1,4 @@
--- A walk: its places, and what it still has to come to.
+-- A walk: its spots, and what it still has to come to.
 use Rattle.std.proofs.Common.{◌≡◌, ℕ, zero, suc, ◌+◌, Bool, true, false, not, cond, List, ◌∷◌, length, map, drop, refl, ap, sym, ◌∙◌, subst, arith}
 use Rattle.std.specs.Prelude.{filter, slice_get, Option, Some, None}
 use Rattle.std.proofs.lemmas.Simd.{map-map}
@@ -6,11 +6,11 @@ use Rattle.read_chain.specs.Reads.{leaves_out, shows_all}
 use Rattle.read_chain.specs.Walks.{IsAt, is_seen_there, item_there, seen_items}
 use Rattle.vocabulary.specs.declared.items.Item.{Item}
 use Rattle.view_laws.specs.declared.places.Found.{Found}
-use Rattle.view_steps.specs.declared.places.Place.{Place}
+use Rattle.view_laws.specs.declared.places.RowSpot.{RowSpot}
 use Rattle.vocabulary.specs.declared.step_table.Family.{Family}
 use Rattle.vocabulary.specs.declared.step_table.Family.TheVariants.{Same, Changed, Turned, Keyed, Hidden, Cut, Grouped, Run, Pieces}
 use Rattle.vocabulary.specs.declared.steps.Step.{Step}
-use Rattle.view_steps.specs.Lanes.{Follows, IsFrom}
+use Rattle.view_laws.specs.Following.{Follows, IsFrom}
 use Rattle.view_laws.specs.Lanes.{turned_if}
 use Rattle.view_laws.specs.Places.{found_in}
 use Rattle.view_laws.specs.RowForm.{RowForm, form_of, form_over, shows}
@@ -20,35 +20,36 @@ use Rattle.machine.specs.Views.{View, base, base_under, both, over, shown}
 use Rattle.view_steps.specs.KnownViews.{is_known_view}
 use Rattle.machine.specs.Leaves.{leaf_at}
 use Rattle.machine.specs.Candidates.{Candidate, is_seen, item_in}
-use Rattle.view_steps.proofs.ListLemmas as lists
-use Rattle.view_steps.proofs.ListLemmas.{filter-all, filter-map, filter-reverse, map-reverse}
+use Rattle.view_laws.proofs.ListLemmas as lists
+use Rattle.view_laws.proofs.ListLemmas.{filter-all, filter-map, filter-reverse}
+use Rattle.view_laws.proofs.RowLemmas.{turned-map}
 use Rattle.view_steps.proofs.CountLemmas.{length_shown}
 
--- ---- places passed
+-- ---- spots passed
 
--- the place after those that were passed
-pub place_next : (ps : List Place) (i : ℕ) (from to : Option Place) → IsAt ps i from → Follows ps from to → slice_get ps i ≡ to
-place_next ps zero None to at next = next
-place_next ps zero (Some p) to at next = absurd at
-place_next ps (suc i) None to at next = absurd at
-place_next ps (suc i) (Some p) to at next = ap (slice_get ps) (let e : suc i ≡ i + 1 = omega arith in e) ∙ next i at
+-- the spot after those that were passed
+pub spot_next : (ss : List RowSpot) (i : ℕ) (from to : Option RowSpot) → IsAt ss i from → Follows ss from to → slice_get ss i ≡ to
+spot_next ss zero None to at next = next
+spot_next ss zero (Some s) to at next = absurd at
+spot_next ss (suc i) None to at next = absurd at
+spot_next ss (suc i) (Some s) to at next = ap (slice_get ss) (let e : suc i ≡ i + 1 = omega arith in e) ∙ next i at
 
-pub place_last : (ps : List Place) (i : ℕ) (from : Option Place) → IsAt ps i from → IsFrom ps from
-place_last ps zero None at = tt
-place_last ps zero (Some p) at = absurd at
-place_last ps (suc i) None at = absurd at
-place_last ps (suc i) (Some p) at = (i, at)
+pub spot_last : (ss : List RowSpot) (i : ℕ) (from : Option RowSpot) → IsAt ss i from → IsFrom ss from
+spot_last ss zero None at = tt
+spot_last ss zero (Some s) at = absurd at
+spot_last ss (suc i) None at = absurd at
+spot_last ss (suc i) (Some s) at = (i, at)
 
-pub passes_one : (ps : List Place) (i : ℕ) (p : Place) → slice_get ps i ≡ Some p → IsAt ps (i + 1) (Some p)
-passes_one ps i p is = subst (λ (n : ℕ). IsAt ps n (Some p)) (let e : suc i ≡ i + 1 = omega arith in e) is
+pub passes_one : (ss : List RowSpot) (i : ℕ) (s : RowSpot) → slice_get ss i ≡ Some s → IsAt ss (i + 1) (Some s)
+passes_one ss i s is = subst (λ (n : ℕ). IsAt ss n (Some s)) (let e : suc i ≡ i + 1 = omega arith in e) is
 
--- the last place, where one more was passed
-pub last_passed : (ps : List Place) (i : ℕ) (last : Option Place) → IsAt ps (i + 1) last → slice_get ps i ≡ last
-last_passed ps i last at = by last (subst (λ (n : ℕ). IsAt ps n last) (let e : i + 1 ≡ suc i = omega arith in e) at)
+-- the last spot, where one more was passed
+pub last_passed : (ss : List RowSpot) (i : ℕ) (last : Option RowSpot) → IsAt ss (i + 1) last → slice_get ss i ≡ last
+last_passed ss i last at = by last (subst (λ (n : ℕ). IsAt ss n last) (let e : i + 1 ≡ suc i = omega arith in e) at)
   where
-    by : (o : Option Place) → IsAt ps (suc i) o → slice_get ps i ≡ o
+    by : (o : Option RowSpot) → IsAt ss (suc i) o → slice_get ss i ≡ o
     by None at = absurd at
-    by (Some p) at = at
+    by (Some s) at = at
 
 -- ---- what is seen
 
@@ -56,7 +57,7 @@ pub shown_found : (cs : List Candidate) → map item_in (filter is_seen cs) ≡ 
 shown_found cs = sym (ap (map item_there) (filter-map is_seen_there found_in cs) ∙ map-map item_there found_in (filter is_seen cs))
 
 seen_turned : (t : Bool) (ds : List Found) → seen_items (turned_if t ds) ≡ turned_if t (seen_items ds)
-seen_turned true ds = ap (map item_there) (filter-reverse is_seen_there ds) ∙ map-reverse item_there (filter is_seen_there ds)
+seen_turned true ds = ap (map item_there) (filter-reverse is_seen_there ds) ∙ turned-map item_there true (filter is_seen_there ds)
 seen_turned false ds = refl
 
 -- at its start a walk has all to come to
@@ -86,7 +87,7 @@ pub every_row : (v : View) → shows_all v ≡ true → (row : Item) → shows (
 every_row (base l) h row = refl
 every_row (both word v u) h row = absurd (cc)
 every_row (over it v) h row =
-    let parts = lists.both (not (leaves_out (family_of it))) (shows_all v) h in
+    let parts = lists.both_true (not (leaves_out (family_of it))) (shows_all v) h in
     family_shows (family_of it) it (form_of v) (kept (leaves_out (family_of it)) parts.0) (every_row v parts.1) row
   where
     kept : (b : Bool) → not b ≡ true → b ≡ false

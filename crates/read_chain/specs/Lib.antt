@@ -2,3 +2,4 @@ pub mod Walks
 pub mod Reads
 pub mod Tests
 pub mod ListLookUps
+pub mod LookUps

@@ -1,5 +1,5 @@
 -- What a read answers.
-use Rattle.std.specs.Prelude.{ℕ, Bool, true, false, not, ◌&&◌, List, Option, None, Some, Result, Ok, Err}
+use Rattle.std.specs.Prelude.{◌≡◌, ℕ, Bool, true, false, not, ◌&&◌, List, Option, None, Some, Result, Ok, Err}
 use Rattle.base_store.specs.Stored.{Stored, view_in}
 use Rattle.vocabulary.specs.declared.answers.Answer.{Answer}
 use Rattle.vocabulary.specs.declared.answers.Answer.TheVariants.{Element}
@@ -8,7 +8,7 @@ use Rattle.vocabulary.specs.declared.calls.Call.TheVariants as call
 use Rattle.vocabulary.specs.declared.calls.OnElement.TheVariants.{Contains, ValueOf, ContainsKey}
 use Rattle.vocabulary.specs.declared.calls.OnPair.TheVariants.{ContainsEntry}
 use Rattle.vocabulary.specs.declared.items.Item.{Item}
-use Rattle.view_steps.specs.declared.places.Place.{Place}
+use Rattle.view_laws.specs.declared.places.Place.{Place}
 use Rattle.vocabulary.specs.declared.refusals.Refusal.{Refusal}
 use Rattle.vocabulary.specs.declared.refusals.Refusal.TheVariants.{NoSuchElement}
 use Rattle.vocabulary.specs.declared.step_table.Family.{Family}
@@ -17,13 +17,12 @@ use Rattle.machine.specs.CallRefusals.{test_refusal}
 use Rattle.machine.specs.Answering.{unless_refused}
 use Rattle.machine.specs.Answers.{answer_of}
 use Rattle.vocabulary.specs.Items.{key_of}
-use Rattle.view_steps.specs.Lanes.{IsFrom}
-use Rattle.view_steps.specs.Places.{places, IsRowAt}
+use Rattle.base_rows.specs.BaseSpots.{IsRowAt}
+use Rattle.base_store.specs.Courses.{spots_at}
 use Rattle.vocabulary.specs.Steps.{family_of}
-use Rattle.machine.specs.Bases.{World, base_at}
+use Rattle.machine.specs.Bases.{World}
 use Rattle.machine.specs.Views.{View, base, both, over, flags_at, shape_at, shown}
 use Rattle.view_steps.specs.KnownViews.{number_under}
-use Rattle.machine.specs.Leaves.{stored}
 
 -- what a node shows
 abbrev pub shown_in : Stored → ℕ → List Item
@@ -57,10 +56,10 @@ abbrev pub refusal_in : {X : Type 0} → Result X Refusal → Option Refusal
 refusal_in (Ok x) = None
 refusal_in (Err why) = Some why
 
--- a place of the base under a view, where the one row of these numbers stands
+-- a place in the base under a view, where the one row of these numbers stands
 pub record StandsAt (world : World) (v : View) (p : Place) (numbers : List ℕ) : Type 0 where
-  pub place : IsFrom (places world (base (stored (number_under v)))) (Some p)
-  pub row : IsRowAt (base_at world (number_under v)).rows p numbers
+  pub leaf : p.leaf ≡ 0
+  pub row : IsRowAt (spots_at world (number_under v)) p.spot numbers
 
 -- whether a call asks for one item, which a view that goes by key finds by its key
 abbrev pub is_look_up : Call → Bool

@@ -1,27 +1,27 @@
 -- Walks over what a view shows.
 use Rattle.std.specs.Prelude.{◌≡◌, ℕ, zero, suc, Bool, ◌<◌, List, [], ◌∷◌, length, map, filter, slice_get, drop, Option, None, Some, if◌then◌else◌}
+use Rattle.base_store.specs.Courses.{IsCourse, line_at}
 use Rattle.base_store.specs.Stored.{Stored, view_in}
 use Rattle.read_chain.specs.declared.walks.Walk.{Walk}
 use Rattle.vocabulary.specs.declared.items.Item.{Item}
-use Rattle.view_steps.specs.declared.lanes.Lane.TheVariants.{All}
 use Rattle.view_laws.specs.declared.places.Found.{Found}
-use Rattle.view_steps.specs.declared.places.Place.{Place}
-use Rattle.view_steps.specs.Lanes.{line}
-use Rattle.view_laws.specs.Lanes.{turned_if}
+use Rattle.view_laws.specs.declared.places.RowSpot.{RowSpot}
+use Rattle.view_laws.specs.Lanes.{all, turned_if}
 use Rattle.view_laws.specs.Places.{found_in}
 use Rattle.machine.specs.Views.{candidates}
 
--- the place of the last of so many that were passed
-abbrev pub IsAt : List Place → ℕ → Option Place → Type 0
-IsAt ps zero None = Unit {0}
-IsAt ps zero (Some p) = ⊥
-IsAt ps (suc i) None = ⊥
-IsAt ps (suc i) (Some p) = slice_get ps i ≡ Some p
+-- the spot of the last of so many that were passed
+abbrev pub IsAt : List RowSpot → ℕ → Option RowSpot → Type 0
+IsAt spots zero None = Unit {0}
+IsAt spots zero (Some s) = ⊥
+IsAt spots (suc i) None = ⊥
+IsAt spots (suc i) (Some s) = slice_get spots i ≡ Some s
 
 -- a walk over a node of the store
 pub record IsWalk (s : Stored) (w : Walk) : Type 0 where
   pub node : w.node < length s.nodes
-  pub at : IsAt (line s.world (view_in s w.node) All w.back) w.passed w.last
+  pub course : IsCourse s.world (view_in s w.node) all w.back w.course
+  pub at : IsAt (line_at s.world w.course.base w.course.lane w.course.back) w.passed w.last
 
 abbrev pub is_seen_there : Found → Bool
 is_seen_there d = d.seen

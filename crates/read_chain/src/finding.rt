@@ -5,13 +5,13 @@ ghost use Rattle.read_chain.specs.Reads.{shown_in, StandsAt};
 ghost use Rattle.machine.specs.CallEdits.{first_hit};
 ghost use Rattle.machine.specs.Views.{candidates};
 
+use crate::places::at_spot;
 use crate::walks::Walk;
 use base_rows::RowTest;
 use base_store::{AnyRef, Store};
 use elem::{Elem, Steps, same};
 use std::sync::ledger::Ledger;
-use view_laws::Found;
-use view_steps::Place;
+use view_laws::{Found, Place};
 use vocabulary::{Item, key_of, same_item, value_of};
 
 /// A test of items.
@@ -83,10 +83,14 @@ pub fn find_place<T: RowTest, L: Ledger>(
     ensures some { IfSome result (λ p. StandsAt store.now.world (view_in store.now n) p (first_hit (T.passes test.now) (candidates store.now.world (view_in store.now n)))) }
 {
     let _base = store.base_of(n);
-    let mut walk = Walk::starting(n, false);
+    store.is_lawful(n);
+    let mut walk = Walk::starting(store, n, false);
     while let Some(found) = walk.pass(store, steps) {
         if is_hit(test, &found) {
-            return walk.last();
+            return match walk.last() {
+                Some(spot) => Some(at_spot(spot)),
+                None => None,
+            };
         }
     }
     None

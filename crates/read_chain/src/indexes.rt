@@ -7,8 +7,10 @@ ghost use Rattle.view_steps.specs.Indexes as spec;
 ghost use Rattle.vocabulary.specs.Shapes.{is_list};
 ghost use Rattle.machine.specs.Views.{candidates, shape_at};
 
+use crate::places::at_spot;
 use base_store::{AnyRef, Node, Store};
-use view_steps::{Place, gap_index_over, item_index_over};
+use view_laws::{Place, RowSpot};
+use view_steps::{gap_index_over, item_index_over};
 
 /// The index in its base of item `i` of a view, where there are so many rows.
 pub fn item_index(store: &Store, n: AnyRef, size: usize, i: usize) -> usize
@@ -47,6 +49,7 @@ pub fn place_of_item(store: &Store, n: AnyRef, i: usize) -> Place
     requires index { i < length (shown_in store.now n) }
     ensures { StandsAt store.now.world (view_in store.now n) result (hit_at i (candidates store.now.world (view_in store.now n))) }
 {
+    store.is_lawful(n);
     let size = store.len(store.base_of(n));
-    Place::Index(item_index(store, n, size, i))
+    at_spot(RowSpot::Index(item_index(store, n, size, i)))
 }

@@ -13,11 +13,12 @@ ghost use Rattle.vocabulary.specs.declared.items.Item as spec;
 use crate::finding::{ItemTest, find_place, is_hit};
 use crate::list_look_ups::{is_placed_at_once, item_place};
 use crate::look_ups::{goes_by_key, look_up};
+use crate::places::at_spot;
 use base_rows::RowTest;
 use base_store::{AnyRef, Store};
 use elem::{Elem, Steps};
 use std::sync::ledger::Ledger;
-use view_steps::Place;
+use view_laws::Place;
 use vocabulary::{Item, key_of, value_of};
 
 /// The place of the first item that is the same. In a set, in a set of entries, and in a view that makes no other items of
@@ -57,11 +58,10 @@ pub fn place_and_value<L: Ledger>(
     ensures value { option_map (λ found. found.1) result ≡ value_shown (shown_in store.now n) k.now }
     ensures step { steps.new ≤ steps.old + 1 }
 {
-    let _base = store.base_of(n);
     match look_up(store, n, k, steps) {
-        Some(found) => {
-            if found.seen {
-                Some((Place::Key(*k), value_of(&found.item)))
+        Some(there) => {
+            if there.found.seen {
+                Some((at_spot(there.spot), value_of(&there.found.item)))
             } else {
                 None
             }
@@ -85,11 +85,10 @@ fn place_at_key<T: RowTest, L: Ledger>(
     ensures some { IfSome result (λ p. StandsAt store.now.world (view_in store.now n) p (first_hit (T.passes test.now) (candidates store.now.world (view_in store.now n)))) }
     ensures step { steps.new ≤ steps.old + 1 }
 {
-    let _base = store.base_of(n);
     match look_up(store, n, k, steps) {
-        Some(found) => {
-            if is_hit(test, &found) {
-                Some(Place::Key(*k))
+        Some(there) => {
+            if is_hit(test, &there.found) {
+                Some(at_spot(there.spot))
             } else {
                 None
             }

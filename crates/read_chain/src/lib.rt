@@ -1,7 +1,7 @@
 //! Reading through nested views: what a view shows is read from the rows of its base at the moment of the call.
 //!
-//! No list is built and no memory is taken: a walk goes from place to place of the base, and a look-up by key asks the
-//! base once.
+//! No list is built and no memory is taken: a walk goes from row to row of the base, one call each, and a look-up by key
+//! asks the base once.
 #![tactic(auto)]
 
 mod finding;
@@ -19,7 +19,7 @@ mod walks;
 pub use finding::{ItemTest, find, find_place};
 pub use indexes::{gap_index, item_index, place_of_item};
 pub use key_places::{place_and_value, place_of};
-pub use look_ups::{goes_by_key, look_up};
+pub use look_ups::goes_by_key;
 pub use making::make_view;
 pub use reading::read;
 pub use reads::{

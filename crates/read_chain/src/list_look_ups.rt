@@ -12,12 +12,12 @@ ghost use Rattle.vocabulary.specs.Items.{same_item};
 ghost use Rattle.vocabulary.specs.Kinds as kinds;
 ghost use Rattle.vocabulary.specs.Shapes.{is_list};
 
-use crate::places::found_of_row;
+use crate::places::{at_spot, found_of_row};
 use crate::reads::shows_all;
 use base_store::{AnyRef, Node, Store};
 use elem::Steps;
 use std::sync::ledger::Ledger;
-use view_steps::Place;
+use view_laws::{Place, RowSpot};
 use vocabulary::{Family, Item, Shape, family_of, key_of, shape_of_kind};
 
 /// Whether the views by a family of steps show the items of the views below them.
@@ -140,7 +140,7 @@ pub(crate) fn item_place<L: Ledger>(
     match first_row(store, n, item, steps) {
         Some(i) => {
             if found_of_row(store, n, item).seen {
-                Some(Place::Index(i))
+                Some(at_spot(RowSpot::Index(i)))
             } else {
                 None
             }

@@ -15,12 +15,12 @@ use crate::finding::{ItemTest, find};
 use crate::indexes::item_index;
 use crate::list_look_ups::{is_found_at_once, is_indexed_at_once, item_index_of, shows_item};
 use crate::look_ups::{goes_by_key, shown_at_key};
-use crate::places::found_at;
+use crate::places::{at_spot, found_at};
 use crate::walks::Walk;
 use base_store::{AnyRef, Node, Store};
 use elem::{Elem, Steps};
 use std::sync::ledger::Ledger;
-use view_steps::Place;
+use view_laws::RowSpot;
 use vocabulary::{Family, Item, family_of, key_of, same_item, value_of};
 
 /// Whether the steps of a family leave no item out.
@@ -115,11 +115,12 @@ pub fn item_at<L: Ledger>(store: &Store, n: AnyRef, i: usize, steps: &mut Steps<
     requires list { is_list (shape_at store.now.world (view_in store.now n)) ≡ true }
     ensures { result ≡ slice_get (shown_in store.now n) i }
 {
+    store.is_lawful(n);
     let size = store.len(store.base_of(n));
     if i >= size {
         return None;
     }
-    let at = Place::Index(item_index(store, n, size, i));
+    let at = at_spot(RowSpot::Index(item_index(store, n, size, i)));
     match found_at(store, n, &at, steps) {
         Some(found) => Some(found.item),
         None => None,

@@ -2,7 +2,6 @@
 use Rattle.std.proofs.Common.{◌≡◌, ℕ, ◌+◌, ◌<◌, ◌≤◌, [], ◌∷◌, ◌++◌, length, set, zero, suc, arith, Bool, ap, List, map, ◌∙◌, true}
 use Rattle.std.specs.Prelude.{filter}
 use Rattle.std.proofs.lemmas.List.{length-map}
-use Rattle.view_steps.specs.declared.lanes.Lane.TheVariants.{All}
 use Rattle.vocabulary.specs.declared.items.Item.{Item}
 use Rattle.machine.specs.Bases.{Base, World, base_at}
 use Rattle.machine.specs.Leaves.{leaf_at}
@@ -10,8 +9,6 @@ use Rattle.view_steps.specs.KnownViews.{is_known_view}
 use Rattle.machine.specs.Views.{View, base_under, candidates, shown, shape_at}
 use Rattle.machine.specs.Candidates.{is_seen, item_in}
 use Rattle.machine.specs.RowCounts.{rows_in}
-use Rattle.view_steps.specs.Lanes.{line}
-use Rattle.view_steps.specs.Places.{places, HasKeys}
 use Rattle.view_laws.specs.RowForm.{RowForm, form_of, shows}
 use Rattle.machine.specs.MadeViews.{IsMade}
 use Rattle.vocabulary.specs.Known.{is_known_kind}
@@ -19,9 +16,8 @@ use Rattle.vocabulary.specs.Shapes.{is_list}
 use Rattle.view_steps.proofs.KindLemmas.{counts_rows}
 use Rattle.view_steps.proofs.KnownLemmas.{known_by_row}
 use Rattle.view_steps.proofs.ListLemmas.{fewer, filter-all}
-use Rattle.view_steps.proofs.StandLemmas.{count_law, few_law}
+use Rattle.view_laws.proofs.RowPlaceLemmas.{few_candidates}
 use Rattle.view_steps.proofs.TurnLemmas.{length-turned}
-use Rattle.view_steps.proofs.FoundLemmas.{whole_line}
 use Rattle.view_laws.proofs.RowLemmas.{shown_law}
 use Rattle.view_steps.proofs.IndexLemmas.{shows_all}
 
@@ -42,14 +38,9 @@ pub rows_in-more : (world : World) (it : Base) → is_known_kind it.kind ≡ tru
 rows_in-more [] it known = omega (arith, counts_rows it known)
 rows_in-more (first ∷ world) it known = omega (arith, rows_in-more world it known)
 
--- no more places than rows
-pub few_places : (world : World) (v : View) (back : Bool) → is_known_view v ≡ true → HasKeys (leaf_at world (base_under v)) → length (line world v All back) ≤ length (leaf_at world (base_under v)).rows
-few_places world v back known keys =
-    omega (arith, ap length (whole_line world v back), length-turned back (places world v), count_law world v known keys, few_law world v known)
-
 -- no more items than rows
 pub few_shown : (world : World) (v : View) → is_known_view v ≡ true → length (shown world v) ≤ length (leaf_at world (base_under v)).rows
-few_shown world v known = omega (arith, length-map (filter is_seen (candidates world v)) item_in, fewer is_seen (candidates world v), few_law world v known)
+few_shown world v known = omega (arith, length-map (filter is_seen (candidates world v)) item_in, fewer is_seen (candidates world v), few_candidates world v (known_by_row world v known))
 
 pub length_shown : (world : World) (v : View) → is_known_view v ≡ true → length (shown world v) ≡ length (filter (shows (form_of v)) (leaf_at world (base_under v)).rows)
 length_shown world v known =

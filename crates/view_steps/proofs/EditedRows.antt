@@ -1,20 +1,14 @@
 -- The rows that an edit leaves, and how many they are.
 use Rattle.std.proofs.Common.{◌≡◌, ℕ, ◌+◌, ◌≤◌, Bool, true, false, cond, ◌||◌, List, [], ◌∷◌, length, refl, ap, ◌∙◌, arith, ◌<◌, suc, inl, inr, ◌⊎◌, ◌≢◌, zero, nat_eq, sym}
-use Rattle.std.specs.Prelude.{nat_lt, Some, slice_get, find, slice_set}
+use Rattle.std.specs.Prelude.{nat_lt, slice_set}
 use Rattle.std.specs.List.{remove}
 use Rattle.std.proofs.lemmas.Bool.Decides.{nat_tests}
-use Rattle.elem.specs.declared.elements.Elem.{Elem}
-use Rattle.elem.specs.Elements.{same}
 use Rattle.vocabulary.specs.declared.edits.Spot.{Spot}
 use Rattle.vocabulary.specs.declared.items.Item.{Item}
-use Rattle.view_steps.specs.declared.places.Place.{Place}
-use Rattle.view_steps.specs.declared.places.Place.TheVariants.{Index, Key}
 use Rattle.vocabulary.specs.declared.refusals.Refusal.{Refusal}
 use Rattle.vocabulary.specs.declared.refusals.Refusal.TheVariants.{Limit, NoMemory}
 use Rattle.machine.specs.Edits.{adding, coming, removing, edited, goes, placed_all, with_rows, without_rows, Edit}
 use Rattle.machine.specs.Bases.{Base, World, base_at}
-use Rattle.vocabulary.specs.Items.{key_of}
-use Rattle.view_steps.specs.Places.{IsRowAt}
 use Rattle.machine.specs.RowCounts.{rows_in}
 use Rattle.vocabulary.specs.Limits.{most_rows}
 use Rattle.vocabulary.specs.Known.{is_known_kind}
@@ -58,20 +52,6 @@ without_few gone n (row ∷ rows) =
       | true ↦ omega arith
       | false ↦ omega arith
     ]
-
-found_number : (k : Elem) (rows : List Item) → (n : ℕ) × (slice_get rows n ≡ find (λ row. same k (key_of row)) rows)
-found_number k [] = (0, refl)
-found_number k (row ∷ rows) =
-    let rest = found_number k rows in
-    elim (same k (key_of row)) as (λ b. (n : ℕ) × (slice_get (row ∷ rows) n ≡ cond b (Some row) (find (λ r. same k (key_of r)) rows))) [
-      | true ↦ (0, refl)
-      | false ↦ (suc rest.0, rest.1)
-    ]
-
--- a place has the number of a row, or of none
-pub numbers_at : (rows : List Item) (p : Place) → (numbers : List ℕ) × IsRowAt rows p numbers
-numbers_at rows (Index i) = (i ∷ [], record { number = i; only = refl; index = refl; row = refl })
-numbers_at rows (Key k) = let found = found_number k rows in (found.0 ∷ [], record { number = found.0; only = refl; index = tt; row = found.1 })
 
 -- more rows than there is room for are too many
 rows_too_many : (world : World) (b room : ℕ) (edit : Edit) → is_known_kind (base_at world b).kind ≡ true → b < length world → room + rows_in world ≡ most_rows → length (base_at world b).rows + room < length (edited (base_at world b) edit).rows → most_rows < rows_in (edited_at world b edit)

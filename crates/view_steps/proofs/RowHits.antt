@@ -22,7 +22,7 @@ use Rattle.vocabulary.specs.Known.{is_known_kind}
 use Rattle.view_steps.specs.KnownViews.{is_known_view, number_under}
 use Rattle.machine.specs.Views.{View, base_under, candidates}
 use Rattle.machine.specs.Candidates.{Candidate, of_rows, changed, hidden, cut}
-use Rattle.view_steps.specs.Places.{found_over}
+use Rattle.view_steps.specs.Founds.{found_in_family}
 use Rattle.vocabulary.specs.Steps.{passes}
 use Rattle.view_steps.proofs.KnownLemmas.{is_plain, known_base}
 use Rattle.view_steps.proofs.RowLemmas.{row_law}
@@ -149,7 +149,7 @@ dropped world v known p b at new kind lt under read is =
 -- what a step of a family makes of what the view below it has
 abbrev pub through : Family → Step → Option Found → Option Found
 through family step None = None
-through family step (Some d) = cond (is_cut_in family step d.item) None (Some (found_over family step d))
+through family step (Some d) = cond (is_cut_in family step d.item) None (Some (found_in_family family step d))
 
 pub found_step : (family : Family) → is_plain family ≡ true → (step : Step) (f : RowForm) (row : Item) → found_of_row (form_over family step f) row ≡ through family step (found_of_row f row)
 found_step Same plain step f row = elim (f.takes row) as (λ b. cond b (Some (found_row_by f row)) None ≡ through Same step (cond b (Some (found_row_by f row)) None)) [ true ↦ refl | false ↦ refl ]
@@ -159,7 +159,7 @@ found_step Turned plain step f row = elim (f.takes row) as (λ b. cond b (Some (
 found_step Hidden plain step f row = elim (f.takes row) as (λ b. cond b (Some (found_row_by (form_over Hidden step f) row)) None ≡ through Hidden step (cond b (Some (found_row_by f row)) None)) [ true ↦ refl | false ↦ refl ]
 found_step Cut plain step f row =
     elim (f.takes row) as (λ b. cond (b && passes step (f.item row)) (Some (found_row_by (form_over Cut step f) row)) None ≡ through Cut step (cond b (Some (found_row_by f row)) None)) [
-      | true ↦ elim (passes step (f.item row)) as (λ b. cond b (Some (found_row_by (form_over Cut step f) row)) None ≡ cond (not b) None (Some (found_over Cut step (found_row_by f row)))) [ true ↦ refl | false ↦ refl ]
+      | true ↦ elim (passes step (f.item row)) as (λ b. cond b (Some (found_row_by (form_over Cut step f) row)) None ≡ cond (not b) None (Some (found_in_family Cut step (found_row_by f row)))) [ true ↦ refl | false ↦ refl ]
       | false ↦ refl
     ]
 found_step Keyed plain step f row = absurd (cc)

@@ -9,8 +9,8 @@ use Rattle.machine.specs.Bases.{World}
 use Rattle.machine.specs.Views.{View, lift, flags_at}
 use Rattle.view_laws.specs.declared.places.Found.{Found}
 use Rattle.view_laws.specs.RowForm.{RowForm, form_of, found_by, found_row_by, shown_by, shows}
+use Rattle.view_steps.specs.Founds.{found_above}
 use Rattle.view_steps.specs.KnownViews.{is_known_view}
-use Rattle.view_steps.specs.Places.{found_over}
 use Rattle.view_steps.specs.Turning.{turned}
 
 -- one more item, at the end of the walk, or at its start where the walk is turned round
@@ -66,4 +66,4 @@ is_cut step item = is_cut_in (family_of step) step item
 
 -- what a view by a step has of a row, by what the view below it has of it
 abbrev pub found_through : Step → Found → Option Found
-found_through step found = if is_cut step found.item then None else Some (found_over (family_of step) step found)
+found_through step found = if is_cut step found.item then None else Some (found_above step found)

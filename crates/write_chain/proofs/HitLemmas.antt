@@ -4,7 +4,7 @@ use Rattle.std.specs.Prelude.{Option, Some, None, find, is_some}
 use Rattle.std.specs.List.{list_any}
 use Rattle.read_chain.specs.Reads.{StandsAt}
 use Rattle.vocabulary.specs.declared.items.Item.{Item}
-use Rattle.view_steps.specs.declared.places.Place.{Place}
+use Rattle.view_laws.specs.declared.places.Place.{Place}
 use Rattle.machine.specs.CallEdits.{first_hit, is_hit, rows_of_first}
 use Rattle.machine.specs.Bases.{World}
 use Rattle.machine.specs.Views.{View, candidates, shown}

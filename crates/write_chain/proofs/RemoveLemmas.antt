@@ -8,7 +8,7 @@ use Rattle.vocabulary.specs.declared.answers.Answer.TheVariants as answer
 use Rattle.vocabulary.specs.declared.calls.Call.TheVariants as call
 use Rattle.vocabulary.specs.declared.calls.OnIndex.TheVariants.{RemoveAt}
 use Rattle.vocabulary.specs.declared.items.Item.{Item}
-use Rattle.view_steps.specs.declared.places.Place.{Place}
+use Rattle.view_laws.specs.declared.places.Place.{Place}
 use Rattle.vocabulary.specs.declared.refusals.Refusal.{Refusal}
 use Rattle.vocabulary.specs.declared.refusals.Refusal.TheVariants.{UnsupportedOperation}
 use Rattle.elem.specs.declared.elements.Elem.{Elem}
@@ -23,7 +23,9 @@ use Rattle.vocabulary.specs.Known.{is_known_kind}
 use Rattle.machine.specs.Reading.{first_refusal}
 use Rattle.machine.specs.RowCounts.{rows_in}
 use Rattle.vocabulary.specs.Limits.{most_rows}
-use Rattle.view_steps.specs.Places.{IsRowAt}
+use Rattle.base_rows.specs.BaseSpots.{IsRowAt}
+use Rattle.base_store.specs.Courses.{spots_at}
+use Rattle.view_laws.specs.Following.{IsFrom}
 use Rattle.machine.specs.Bases.{World, base_at}
 use Rattle.machine.specs.Views.{View, candidates, flags_at, shown}
 use Rattle.write_chain.specs.Calls.{Came, answered_known, left, removed}
@@ -37,11 +39,15 @@ use Rattle.view_steps.proofs.IndexRefusals.{index_given}
 pub none_hit : (s : Stored) (b : ℕ) (gone : List ℕ) → is_known_kind (base_at s.world b).kind ≡ true → gone ≡ [] → s ≡ with_world s (edited_at s.world b (removing gone))
 none_hit s b gone kind e = ap (with_world s) (sym (ap (λ numbers. edited_at s.world b (removing numbers)) e ∙ nothing_gone s.world b kind))
 
+-- the spot of a place where a row stands
+pub spot_there : (world : World) (v : View) (p : Place) (b : ℕ) (gone : List ℕ) → b ≡ number_under v → StandsAt world v p gone → IsFrom (spots_at world b) (Some p.spot)
+spot_there world v p b gone e stands = subst (λ n. IsFrom (spots_at world n) (Some p.spot)) (sym e) (stands.row.number, stands.row.at)
+
 -- a store from which the row of a place went
 pub row_gone : (s now : Stored) (v : View) (p : Place) (b : ℕ) (gone : List ℕ) → b ≡ number_under v → StandsAt s.world v p gone
-    → ((numbers : List ℕ) → IsRowAt (base_at s.world b).rows p numbers → now ≡ with_world s (edited_at s.world b (removing numbers))) → now ≡ with_world s (edited_at s.world (number_under v) (removing gone))
+    → ((numbers : List ℕ) → IsRowAt (spots_at s.world b) p.spot numbers → now ≡ with_world s (edited_at s.world b (removing numbers))) → now ≡ with_world s (edited_at s.world (number_under v) (removing gone))
 row_gone s now v p b gone e stands after =
-    after gone (subst (λ n. IsRowAt (base_at s.world n).rows p gone) (sym e) stands.row) ∙ ap (λ n. with_world s (edited_at s.world n (removing gone))) e
+    after gone (subst (λ n. IsRowAt (spots_at s.world n) p.spot gone) (sym e) stands.row) ∙ ap (λ n. with_world s (edited_at s.world n (removing gone))) e
 
 -- ---- what a removing call answers, where the view allows it
 

@@ -30,7 +30,7 @@ pub(crate) fn add_one<L: Ledger>(
     requires change { ChangesUpTo (2 ^ 63 - 1) store.old.world }
     ensures came { Came result store.old store.new (added store.old.world (view_in store.old n) (item.now ∷ []) spot answer) }
     ensures memory { result ≡ Err NoMemory → adds_rows store.old.world (added store.old.world (view_in store.old n) (item.now ∷ []) spot answer) ≡ true }
-    ensures steps { steps.new ≤ steps.old + 3 }
+    ensures steps { steps.new ≤ steps.old + 2 }
 {
     if !lifts(store, n, item) {
         return Err(Refusal::IllegalArgument);

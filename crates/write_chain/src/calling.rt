@@ -50,7 +50,7 @@ pub fn call<L: Ledger>(
     ensures came { Came result store.old store.new (answered store.old.world (view_in store.old n) call.now) }
     ensures memory { result ≡ Err NoMemory → wants_memory store.old.world (view_in store.old n) call.now (answered store.old.world (view_in store.old n) call.now) ≡ true }
     ensures changes { (most : ℕ) → ChangesUpTo most store.old.world → ChangesUpTo (most + 1) store.new.world }
-    ensures steps { is_single call.now ≡ true → is_keyed (shape_at store.old.world (view_in store.old n)) ≡ true → steps.new ≤ steps.old + 4 }
+    ensures steps { is_single call.now ≡ true → is_keyed (shape_at store.old.world (view_in store.old n)) ≡ true → steps.new ≤ steps.old + 3 }
     ensures looks_up { is_look_up call.now ≡ true → is_keyed (shape_at store.old.world (view_in store.old n)) ≡ true → steps.new ≤ steps.old + 1 }
     ensures at_once { is_asked_at_once store.old.world (view_in store.old n) call.now ≡ true → steps.new ≤ steps.old + 1 }
     ensures removes_at_once { is_removed_at_once store.old.world (view_in store.old n) call.now ≡ true → steps.new ≤ steps.old + 2 }
@@ -77,7 +77,7 @@ fn carry_out<L: Ledger>(
     requires change { ChangesUpTo (2 ^ 63 - 1) store.old.world }
     ensures came { Came result store.old store.new (answered_known store.old.world (view_in store.old n) call.now) }
     ensures memory { result ≡ Err NoMemory → adds_rows store.old.world (answered_known store.old.world (view_in store.old n) call.now) ≡ true }
-    ensures steps { is_single call.now ≡ true → is_keyed (shape_at store.old.world (view_in store.old n)) ≡ true → steps.new ≤ steps.old + 4 }
+    ensures steps { is_single call.now ≡ true → is_keyed (shape_at store.old.world (view_in store.old n)) ≡ true → steps.new ≤ steps.old + 3 }
     ensures looks_up { is_look_up call.now ≡ true → is_keyed (shape_at store.old.world (view_in store.old n)) ≡ true → steps.new ≤ steps.old + 1 }
     ensures at_once { is_asked_at_once store.old.world (view_in store.old n) call.now ≡ true → steps.new ≤ steps.old + 1 }
     ensures removes_at_once { is_removed_at_once store.old.world (view_in store.old n) call.now ≡ true → steps.new ≤ steps.old + 2 }
@@ -105,7 +105,7 @@ fn on_ask<L: Ledger>(
     requires change { ChangesUpTo (2 ^ 63 - 1) store.old.world }
     ensures came { Came result store.old store.new (answered_known store.old.world (view_in store.old n) (calls.Ask word)) }
     ensures memory { result ≡ Err NoMemory → adds_rows store.old.world (answered_known store.old.world (view_in store.old n) (calls.Ask word)) ≡ true }
-    ensures steps { is_single (calls.Ask word) ≡ true → is_keyed (shape_at store.old.world (view_in store.old n)) ≡ true → steps.new ≤ steps.old + 4 }
+    ensures steps { is_single (calls.Ask word) ≡ true → is_keyed (shape_at store.old.world (view_in store.old n)) ≡ true → steps.new ≤ steps.old + 3 }
 {
     match word {
         Ask::Clear => Ok(clear(store, n, steps)),
@@ -127,7 +127,7 @@ fn on_element<L: Ledger>(
     requires change { ChangesUpTo (2 ^ 63 - 1) store.old.world }
     ensures came { Came result store.old store.new (answered_known store.old.world (view_in store.old n) (calls.Element word x.now)) }
     ensures memory { result ≡ Err NoMemory → adds_rows store.old.world (answered_known store.old.world (view_in store.old n) (calls.Element word x.now)) ≡ true }
-    ensures steps { is_single (calls.Element word x.now) ≡ true → is_keyed (shape_at store.old.world (view_in store.old n)) ≡ true → steps.new ≤ steps.old + 4 }
+    ensures steps { is_single (calls.Element word x.now) ≡ true → is_keyed (shape_at store.old.world (view_in store.old n)) ≡ true → steps.new ≤ steps.old + 3 }
     ensures looks_up { is_look_up (calls.Element word x.now) ≡ true → is_keyed (shape_at store.old.world (view_in store.old n)) ≡ true → steps.new ≤ steps.old + 1 }
     ensures at_once { is_asked_at_once store.old.world (view_in store.old n) (calls.Element word x.now) ≡ true → steps.new ≤ steps.old + 1 }
     ensures removes_at_once { is_removed_at_once store.old.world (view_in store.old n) (calls.Element word x.now) ≡ true → steps.new ≤ steps.old + 2 }
@@ -153,7 +153,7 @@ fn on_index<L: Ledger>(
     requires change { ChangesUpTo (2 ^ 63 - 1) store.old.world }
     ensures came { Came result store.old store.new (answered_known store.old.world (view_in store.old n) (calls.Index word i)) }
     ensures memory { result ≡ Err NoMemory → adds_rows store.old.world (answered_known store.old.world (view_in store.old n) (calls.Index word i)) ≡ true }
-    ensures steps { is_single (calls.Index word i) ≡ true → is_keyed (shape_at store.old.world (view_in store.old n)) ≡ true → steps.new ≤ steps.old + 4 }
+    ensures steps { is_single (calls.Index word i) ≡ true → is_keyed (shape_at store.old.world (view_in store.old n)) ≡ true → steps.new ≤ steps.old + 3 }
 {
     match word {
         OnIndex::ItemAt => read(store, n, &Call::Index(word, i), steps),
@@ -175,7 +175,7 @@ fn on_indexed<L: Ledger>(
     requires change { ChangesUpTo (2 ^ 63 - 1) store.old.world }
     ensures came { Came result store.old store.new (answered_known store.old.world (view_in store.old n) (calls.Indexed word i x.now)) }
     ensures memory { result ≡ Err NoMemory → adds_rows store.old.world (answered_known store.old.world (view_in store.old n) (calls.Indexed word i x.now)) ≡ true }
-    ensures steps { is_single (calls.Indexed word i x.now) ≡ true → is_keyed (shape_at store.old.world (view_in store.old n)) ≡ true → steps.new ≤ steps.old + 4 }
+    ensures steps { is_single (calls.Indexed word i x.now) ≡ true → is_keyed (shape_at store.old.world (view_in store.old n)) ≡ true → steps.new ≤ steps.old + 3 }
 {
     match word {
         OnIndexed::AddAt => add_at(store, n, i, x, steps),
@@ -198,7 +198,7 @@ fn on_pair<L: Ledger>(
     requires change { ChangesUpTo (2 ^ 63 - 1) store.old.world }
     ensures came { Came result store.old store.new (answered_known store.old.world (view_in store.old n) (calls.Pair word k.now w.now)) }
     ensures memory { result ≡ Err NoMemory → adds_rows store.old.world (answered_known store.old.world (view_in store.old n) (calls.Pair word k.now w.now)) ≡ true }
-    ensures steps { is_single (calls.Pair word k.now w.now) ≡ true → is_keyed (shape_at store.old.world (view_in store.old n)) ≡ true → steps.new ≤ steps.old + 4 }
+    ensures steps { is_single (calls.Pair word k.now w.now) ≡ true → is_keyed (shape_at store.old.world (view_in store.old n)) ≡ true → steps.new ≤ steps.old + 3 }
     ensures looks_up { is_look_up (calls.Pair word k.now w.now) ≡ true → is_keyed (shape_at store.old.world (view_in store.old n)) ≡ true → steps.new ≤ steps.old + 1 }
 {
     match word {

@@ -48,7 +48,7 @@ pub(crate) fn add<L: Ledger>(
     requires change { ChangesUpTo (2 ^ 63 - 1) store.old.world }
     ensures came { Came result store.old store.new (answered_known store.old.world (view_in store.old n) (calls.Element on_element.Add x.now)) }
     ensures memory { result ≡ Err NoMemory → adds_rows store.old.world (answered_known store.old.world (view_in store.old n) (calls.Element on_element.Add x.now)) ≡ true }
-    ensures steps { is_keyed (shape_at store.old.world (view_in store.old n)) ≡ true → steps.new ≤ steps.old + 4 }
+    ensures steps { is_keyed (shape_at store.old.world (view_in store.old n)) ≡ true → steps.new ≤ steps.old + 3 }
 {
     let _base = store.base_of(n);
     let item = Item::One(*x);
@@ -130,7 +130,7 @@ pub(crate) fn put<L: Ledger>(
     requires change { ChangesUpTo (2 ^ 63 - 1) store.old.world }
     ensures came { Came result store.old store.new (answered_known store.old.world (view_in store.old n) (calls.Pair on_pair.Put k.now w.now)) }
     ensures memory { result ≡ Err NoMemory → adds_rows store.old.world (answered_known store.old.world (view_in store.old n) (calls.Pair on_pair.Put k.now w.now)) ≡ true }
-    ensures steps { steps.new ≤ steps.old + 4 }
+    ensures steps { steps.new ≤ steps.old + 3 }
 {
     let _base = store.base_of(n);
     let before = map_get(store, n, k, steps);

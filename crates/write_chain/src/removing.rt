@@ -37,7 +37,7 @@ pub(crate) fn remove_item<L: Ledger>(
     let _left = store.rows_left();
     match place_of(store, n, item, steps) {
         Some(place) => {
-            store.remove_row(b, &place, steps);
+            store.remove_row(b, &place.spot, steps);
             Answer::Truth(true)
         }
         None => Answer::Truth(false),
@@ -61,7 +61,7 @@ pub(crate) fn remove_key<L: Ledger>(
     let _left = store.rows_left();
     match place_and_value(store, n, k, steps) {
         Some(found) => {
-            store.remove_row(b, &found.0, steps);
+            store.remove_row(b, &found.0.spot, steps);
             Answer::Optional(Some(found.1))
         }
         None => Answer::Optional(None),
@@ -90,6 +90,6 @@ pub(crate) fn remove_at<L: Ledger>(
     };
     let b = store.base_of(n);
     let place = place_of_item(store, n, at);
-    store.remove_row(b, &place, steps);
+    store.remove_row(b, &place.spot, steps);
     Ok(Answer::Element(key_of(&item)))
 }

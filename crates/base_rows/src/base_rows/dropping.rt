@@ -1,13 +1,17 @@
 //! Rows that go from a base.
 ghost use Rattle.std.specs.Prelude.{◌≡◌, ◌≤◌, ◌+◌, ℕ, List, [], Some, filter, is_some, not, true};
-ghost use Rattle.base_rows.specs.BaseRows.{kind_of, plain, rows_of};
+ghost use Rattle.base_rows.specs.BaseRows.{base_spots, kind_of, rows_of};
 ghost use Rattle.base_rows.specs.Reaches.{Reaches};
 ghost use Rattle.elem.specs.Keyed.{value_at};
 ghost use Rattle.vocabulary.specs.declared.items.Item.{Item as AnItem};
 ghost use Rattle.machine.specs.Edits.{without_rows};
 ghost use Rattle.vocabulary.specs.Items.{key_of};
-ghost use Rattle.view_steps.specs.Lanes.{takes, IsFrom, Serves};
-ghost use Rattle.view_steps.specs.Places.{places_of, IsRowAt};
+ghost use Rattle.base_rows.specs.BaseSpots.{IsRowAt};
+ghost use Rattle.vocabulary.specs.Kinds.{shape_of_kind};
+ghost use Rattle.view_laws.specs.Following.{IsFrom};
+ghost use Rattle.view_laws.specs.ItemForms.{has_form};
+ghost use Rattle.view_laws.specs.Lanes.{takes};
+ghost use Rattle.view_laws.specs.Serving.{Serves};
 
 mod keyed;
 mod listed;
@@ -22,14 +26,14 @@ use crate::reach::Reach;
 use elem::{Keyed, Steps};
 use linked_base::FreeLinkedMap;
 use std::sync::ledger::Ledger;
-use view_steps::{Lane, Place};
+use view_laws::{Lane, RowSpot};
 
 impl BaseRows {
-    /// Removes the row at a place. It takes no memory.
-    pub fn remove<L: Ledger>(&mut self, at: &Place, steps: &mut Steps<L>)
-        requires { IsFrom (places_of (plain self.old)) (Some at.now) }
+    /// Removes the row at a spot. It takes no memory.
+    pub fn remove<L: Ledger>(&mut self, at: &RowSpot, steps: &mut Steps<L>)
+        requires { IsFrom (base_spots self.old) (Some at.now) }
         ensures kind { kind_of self.new ≡ kind_of self.old }
-        ensures rows { (numbers : List ℕ) → IsRowAt (rows_of self.old) at.now numbers → rows_of self.new ≡ without_rows numbers 0 (rows_of self.old) }
+        ensures rows { (numbers : List ℕ) → IsRowAt (base_spots self.old) at.now numbers → rows_of self.new ≡ without_rows numbers 0 (rows_of self.old) }
         ensures steps { steps.new ≤ steps.old + 1 }
     {
         match self {
@@ -84,20 +88,20 @@ impl BaseRows {
     /// Removes every row that passes a test, where each of them stands in a lane.
     fn drop_along<T: RowTest, L: Ledger>(&mut self, lane: &Lane, test: &T, steps: &mut Steps<L>)
         requires serves { Serves (kind_of self.old) lane.now }
-        requires reach { (row : AnItem) → T.passes test.now row ≡ true → takes lane.now row ≡ true }
+        requires reach { (row : AnItem) → has_form (shape_of_kind (kind_of self.old)) row ≡ true → T.passes test.now row ≡ true → takes lane.now row ≡ true }
         ensures kind { kind_of self.new ≡ kind_of self.old }
         ensures rows { rows_of self.new ≡ filter (λ row. not (T.passes test.now row)) (rows_of self.old) }
     {
         match self {
             BaseRows::ArrayList(rows) => drop_items(rows, test, steps),
             BaseRows::LinkedHashSet(rows) => drop_rows(rows, test, steps),
-            BaseRows::TreeSet(rows) => drop_sorted(rows, lane, test, steps),
-            BaseRows::TreeSetReverse(rows) => drop_sorted(rows, lane, test, steps),
-            BaseRows::TreeSetLength(rows) => drop_sorted(rows, lane, test, steps),
+            BaseRows::TreeSet(rows) => drop_sorted(rows, &lane.first, test, steps),
+            BaseRows::TreeSetReverse(rows) => drop_sorted(rows, &lane.first, test, steps),
+            BaseRows::TreeSetLength(rows) => drop_sorted(rows, &lane.first, test, steps),
             BaseRows::LinkedHashMap(rows) => drop_rows(rows, test, steps),
-            BaseRows::TreeMap(rows) => drop_sorted(rows, lane, test, steps),
-            BaseRows::TreeMapReverse(rows) => drop_sorted(rows, lane, test, steps),
-            BaseRows::TreeMapLength(rows) => drop_sorted(rows, lane, test, steps),
+            BaseRows::TreeMap(rows) => drop_sorted(rows, &lane.first, test, steps),
+            BaseRows::TreeMapReverse(rows) => drop_sorted(rows, &lane.first, test, steps),
+            BaseRows::TreeMapLength(rows) => drop_sorted(rows, &lane.first, test, steps),
         }
     }
 
@@ -108,7 +112,7 @@ impl BaseRows {
         test: &T,
         steps: &mut Steps<L>,
     )
-        requires { (row : AnItem) → T.passes test.now row ≡ true → is_some (value_at keys.now (key_of row)) ≡ true }
+        requires { (row : AnItem) → has_form (shape_of_kind (kind_of self.old)) row ≡ true → T.passes test.now row ≡ true → is_some (value_at keys.now (key_of row)) ≡ true }
         ensures kind { kind_of self.new ≡ kind_of self.old }
         ensures rows { rows_of self.new ≡ filter (λ row. not (T.passes test.now row)) (rows_of self.old) }
     {

@@ -34,7 +34,7 @@ impl BaseRows {
         ensures ok { OnOk result (rows_of self.new ≡ placed_at (kind_of self.old) spot (rows_of self.old) row.now) }
         ensures err { OnErr result (rows_of self.new ≡ rows_of self.old) }
         ensures memory { OnErr result (is_one_more (kind_of self.old) spot (rows_of self.old) row.now ≡ true) }
-        ensures steps { steps.new ≤ steps.old + 2 }
+        ensures steps { steps.new ≤ steps.old + 1 }
     {
         match self {
             BaseRows::ArrayList(rows) => place_item(rows, spot, key_of(row), steps),

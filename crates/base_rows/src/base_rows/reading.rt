@@ -1,97 +1,104 @@
-//! Reading the rows of a base by their places.
-ghost use Rattle.std.specs.Prelude.{◌≡◌, ◌≤◌, ◌+◌, Some, true};
+//! Reading the rows of a base by their spots.
+ghost use Rattle.std.specs.Prelude.{◌≡◌, ◌≤◌, ◌+◌, Some, true, IfSome, option_map};
 ghost use Rattle.std.specs.List.{position};
-ghost use Rattle.base_rows.specs.BaseRows.{base_line, kind_of, plain, rows_of};
-ghost use Rattle.base_rows.specs.KeyLines.{key_line, keys_in, IsKeyFrom, KeyFollows};
+ghost use Rattle.base_rows.specs.BaseRows.{base_line, base_spots, kind_of, rows_of};
+ghost use Rattle.base_rows.specs.BaseSpots as spec;
+ghost use Rattle.base_rows.specs.KeyLines.{key_line, keys_in};
 ghost use Rattle.vocabulary.specs.Kinds.{shape_of_kind};
-ghost use Rattle.view_steps.specs.Lanes.{Follows, IsFrom, Serves};
-ghost use Rattle.view_steps.specs.Places as spec;
-ghost use Rattle.vocabulary.specs.Items.{same_item};
+ghost use Rattle.view_laws.specs.Following.{Follows, IsFrom};
+ghost use Rattle.view_laws.specs.Spots as spots;
+ghost use Rattle.view_laws.specs.Serving.{Serves, ServesKeys};
+ghost use Rattle.vocabulary.specs.Items.{key_of, same_item};
 ghost use Rattle.vocabulary.specs.Shapes.{is_keyed, is_list};
 ghost use Rattle.vocabulary.specs.declared.items.Item.TheVariants.{One};
-ghost use Rattle.view_steps.specs.declared.places.Place.TheVariants as place;
 
 mod indexes;
 mod keys;
 
 use super::BaseRows;
+use crate::SpottedRow;
 use elem::{Elem, Steps};
-use indexes::{index_at, index_of_item, item_at, next_index, place_of_index};
-use keys::{entry_of_key, key_at, member_of_key, next_in_lane, next_sorted, place_of_key};
+use indexes::{index_at, index_of_item, item_at, next_item};
+use keys::{entry_of_key, key_at, member_of_key, next_linked, next_sorted};
 use std::sync::ledger::Ledger;
-use view_steps::{Lane, Place};
+use view_laws::{Lane, PartAsk, RowSpot};
 use vocabulary::Item;
 
 impl BaseRows {
-    /// The place that follows another in a lane, or the first one.
-    pub fn next_place<L: Ledger>(
+    /// The row that follows that at a spot in a lane, or the first one, with its spot.
+    pub fn next_row<L: Ledger>(
         &self,
         lane: &Lane,
         back: bool,
-        from: Option<Place>,
+        from: &Option<RowSpot>,
         steps: &mut Steps<L>,
-    ) -> Option<Place>
+    ) -> Option<SpottedRow>
         requires serves { Serves (kind_of self.now) lane.now }
-        requires from { IsFrom (base_line self.now lane.now back) from }
-        ensures next { Follows (base_line self.now lane.now back) from result }
+        requires from { IsFrom (base_line self.now lane.now back) from.now }
+        ensures next { Follows (base_line self.now lane.now back) from.now (option_map (λ found. found.spot) result) }
+        ensures row { IfSome result (λ found. spots.row_at (base_spots self.now) (rows_of self.now) found.spot ≡ Some found.row) }
         ensures step { steps.new ≤ steps.old + 1 }
     {
         let _len = self.len();
         match self {
-            BaseRows::ArrayList(rows) => match lane {
-                Lane::All => place_of_index(next_index(rows, back, index_at(from))),
+            BaseRows::ArrayList(rows) => match lane.first {
+                PartAsk::Any => next_item(rows, back, index_at(from), steps),
                 _ => None,
             },
-            _ => place_of_key(self.next_key(lane, back, key_at(from), steps)),
+            _ => self.next_keyed(&lane.first, back, key_at(from), steps),
         }
     }
 
-    /// The key that follows another in a lane of a set or a map, or the first one.
-    fn next_key<L: Ledger>(
+    /// The row that follows that of a key in a set or a map, of those whose keys are as asked, or the first one.
+    fn next_keyed<L: Ledger>(
         &self,
-        lane: &Lane,
+        ask: &PartAsk,
         back: bool,
         from: Option<Elem>,
         steps: &mut Steps<L>,
-    ) -> Option<Elem>
+    ) -> Option<SpottedRow>
         requires keyed { is_keyed (shape_of_kind (kind_of self.now)) ≡ true }
-        requires serves { Serves (kind_of self.now) lane.now }
-        requires from { IsKeyFrom (key_line lane.now back (keys_in self.now)) from }
-        ensures next { KeyFollows (key_line lane.now back (keys_in self.now)) from result }
+        requires serves { ServesKeys (kind_of self.now) ask.now }
+        requires from { IsFrom (key_line ask.now back (keys_in self.now)) from }
+        ensures next { Follows (key_line ask.now back (keys_in self.now)) from (option_map (λ found. key_of found.row) result) }
+        ensures spot { IfSome result (λ found. found.spot ≡ spec.key_spot found.row) }
+        ensures row { IfSome result (λ found. spec.row_of_key (rows_of self.now) (key_of found.row) ≡ Some found.row) }
         ensures step { steps.new ≤ steps.old + 1 }
     {
         match self {
             BaseRows::ArrayList(_) => None,
-            BaseRows::LinkedHashSet(rows) => next_in_lane(rows, lane, back, from, steps),
-            BaseRows::TreeSet(rows) => next_sorted(rows, lane, back, from, steps),
-            BaseRows::TreeSetReverse(rows) => next_sorted(rows, lane, back, from, steps),
-            BaseRows::TreeSetLength(rows) => next_sorted(rows, lane, back, from, steps),
-            BaseRows::LinkedHashMap(rows) => next_in_lane(rows, lane, back, from, steps),
-            BaseRows::TreeMap(rows) => next_sorted(rows, lane, back, from, steps),
-            BaseRows::TreeMapReverse(rows) => next_sorted(rows, lane, back, from, steps),
-            BaseRows::TreeMapLength(rows) => next_sorted(rows, lane, back, from, steps),
+            BaseRows::LinkedHashSet(rows) => next_linked(rows, ask, back, from, steps),
+            BaseRows::TreeSet(rows) => next_sorted(rows, ask, back, from, steps),
+            BaseRows::TreeSetReverse(rows) => next_sorted(rows, ask, back, from, steps),
+            BaseRows::TreeSetLength(rows) => next_sorted(rows, ask, back, from, steps),
+            BaseRows::LinkedHashMap(rows) => next_linked(rows, ask, back, from, steps),
+            BaseRows::TreeMap(rows) => next_sorted(rows, ask, back, from, steps),
+            BaseRows::TreeMapReverse(rows) => next_sorted(rows, ask, back, from, steps),
+            BaseRows::TreeMapLength(rows) => next_sorted(rows, ask, back, from, steps),
         }
     }
 
-    /// The row at a place.
-    pub fn row_at<L: Ledger>(&self, at: &Place, steps: &mut Steps<L>) -> Option<Item>
-        requires { IsFrom (spec.places_of (plain self.now)) (Some at.now) }
-        ensures row { result ≡ spec.row_at (rows_of self.now) at.now }
+    /// The row at a spot.
+    pub fn row_at<L: Ledger>(&self, at: &RowSpot, steps: &mut Steps<L>) -> Option<Item>
+        requires { IsFrom (base_spots self.now) (Some at.now) }
+        ensures row { result ≡ spots.row_at (base_spots self.now) (rows_of self.now) at.now }
         ensures step { steps.new ≤ steps.old + 1 }
     {
+        let _len = self.len();
         match at {
-            Place::Index(i) => match self {
+            RowSpot::Index(i) => match self {
                 BaseRows::ArrayList(rows) => item_at(rows, *i, steps),
                 _ => None,
             },
-            Place::Key(k) => self.row_of_key(k, steps),
+            RowSpot::Key(k) => self.row_of_key(k, steps),
+            _ => None,
         }
     }
 
     /// The row of a key, in a set or a map.
     pub fn row_of_key<L: Ledger>(&self, k: &Elem, steps: &mut Steps<L>) -> Option<Item>
         requires { is_keyed (shape_of_kind (kind_of self.now)) ≡ true }
-        ensures row { result ≡ spec.row_at (rows_of self.now) (place.Key k.now) }
+        ensures row { result ≡ spec.row_of_key (rows_of self.now) k.now }
         ensures step { steps.new ≤ steps.old + 1 }
     {
         match self {

@@ -1,14 +1,14 @@
 //! Removing from a base what a view shows.
-ghost use Rattle.std.specs.Prelude.{◌≡◌, ◌<◌, ◌≤◌, ◌^◌, ◌++◌, is_some, length, true};
+ghost use Rattle.std.specs.Prelude.{◌≡◌, ◌<◌, ◌≤◌, ◌^◌, ◌++◌, false, is_some, length, true};
 ghost use Rattle.std.specs.List.{list_any};
-ghost use Rattle.base_store.specs.BaseLanes as spec;
+ghost use Rattle.base_store.specs.Courses.{IsCourse};
 ghost use Rattle.base_store.specs.Hits.{StandBelow};
 ghost use Rattle.base_store.specs.Nodes.{view_at};
 ghost use Rattle.base_rows.specs.Reaches.{Reaches};
 ghost use Rattle.base_store.specs.Stored.{view_in, with_world};
 ghost use Rattle.elem.specs.Keyed.{value_at};
 ghost use Rattle.vocabulary.specs.declared.items.Item.{Item as AnItem};
-ghost use Rattle.view_steps.specs.declared.lanes.Lane.TheVariants as lanes;
+ghost use Rattle.view_laws.specs.Lanes.{all};
 ghost use Rattle.machine.specs.CallEdits.{all_hits};
 ghost use Rattle.machine.specs.Edits.{edited, removing};
 ghost use Rattle.view_steps.specs.KnownViews.{edited_at, is_known_view, number_under};
@@ -16,7 +16,7 @@ ghost use Rattle.vocabulary.specs.Items.{key_of};
 ghost use Rattle.vocabulary.specs.Known.{is_known_kind};
 ghost use Rattle.machine.specs.RowCounts.{rows_in};
 ghost use Rattle.vocabulary.specs.Limits.{most_rows};
-ghost use Rattle.view_steps.specs.Places.{HasKeys};
+ghost use Rattle.base_rows.specs.BaseSpots.{HasKeys};
 ghost use Rattle.view_laws.specs.RowForm.{form_of, shows};
 ghost use Rattle.view_steps.specs.RowHits.{is_row_hit};
 ghost use Rattle.vocabulary.specs.Shapes.{is_keyed};
@@ -26,13 +26,12 @@ ghost use Rattle.machine.specs.Views.{candidates, shape_at, shown};
 use super::nodes::Nodes;
 use super::shown::Shown;
 use super::writing::rows_at;
-use super::{Slot, Store};
+use super::{Course, Slot, Store};
 use crate::{AnyRef, Node};
 use base_rows::{Reach, RowTest};
 use elem::Steps;
 use linked_base::FreeLinkedMap;
 use std::sync::ledger::Ledger;
-use view_steps::{Lane, narrow};
 use vocabulary::{Family, family_of};
 
 impl Store {
@@ -50,8 +49,8 @@ impl Store {
         ensures after { self.new ≡ with_world self.old (edited_at self.old.world (number_under (view_in self.old n)) (removing (all_hits (T.passes test.now) (candidates self.old.world (view_in self.old n))))) }
         ensures few { rows_in self.new.world ≤ most_rows }
     {
-        let lane = self.base_lane(n, &Lane::All);
-        let reach = self.reach_of(n, test, &lane);
+        let course = self.course(n, false);
+        let reach = self.reach_of(n, test, &course);
         self.drop_reached(n, reach, test, steps)
     }
 
@@ -72,6 +71,7 @@ impl Store {
         ensures after { self.new ≡ with_world self.old (edited_at self.old.world (number_under (view_in self.old n)) (removing (all_hits (T.passes test.now) (candidates self.old.world (view_in self.old n))))) }
         ensures few { rows_in self.new.world ≤ most_rows }
     {
+        self.is_lawful(n);
         let _base = self.base_of(n);
         self.drop_reached(n, Reach::At(keys), test, steps)
     }
@@ -108,18 +108,19 @@ impl Store {
     }
 
     /// Where the rows stand that a view shows whose items pass a test: in the lane of its base, if not all go.
-    fn reach_of<'a, T: RowTest>(&self, n: AnyRef, test: &T, lane: &'a Lane) -> Reach<'a>
+    fn reach_of<'a, T: RowTest>(&self, n: AnyRef, test: &T, course: &'a Course) -> Reach<'a>
         requires node { n < length self.now.nodes }
-        requires lane { lane.now ≡ spec.base_lane (view_in self.now n) lanes.All }
+        requires course { IsCourse self.now.world (view_in self.now n) all false course.now }
         ensures { Reaches (base_at self.now.world (number_under (view_in self.now n))).kind result (is_row_hit (T.passes test.now) (form_of (view_in self.now n))) }
     {
+        self.is_lawful(n);
         let _base = self.base_of(n);
         if test.takes_all() {
             if self.shows_each(n) {
                 return Reach::Whole;
             }
         }
-        Reach::Along(lane)
+        Reach::Along(&course.lane)
     }
 
     /// Whether no step of a view leaves a row out or hides one.
@@ -133,20 +134,6 @@ impl Store {
                 Family::Hidden | Family::Cut => false,
                 _ => self.shows_each(parent),
             },
-        }
-    }
-
-    /// A lane of a view, as its steps pass it down to the base.
-    fn base_lane(&self, n: AnyRef, lane: &Lane) -> Lane
-        requires { n < length self.now.nodes }
-        ensures { result ≡ spec.base_lane (view_in self.now n) lane.now }
-    {
-        match self.node(n) {
-            Node::Base(_) => *lane,
-            Node::Step { step, parent } => {
-                let below = narrow(&step, lane).unwrap_or(Lane::Nothing);
-                self.base_lane(parent, &below)
-            }
         }
     }
 }

@@ -4,12 +4,15 @@ ghost use Rattle.base_store.specs.Facts.{facts_at};
 ghost use Rattle.vocabulary.specs.StepShapes as table;
 ghost use Rattle.view_steps.specs.KnownViews.{is_known};
 ghost use Rattle.machine.specs.Bases.{World, base_at};
+ghost use Rattle.machine.specs.Views as views;
 ghost use Rattle.machine.specs.Views.{View, base, over, shape_after};
 ghost use Rattle.machine.specs.Leaves.{stored};
 
 use elem::{Cut, Window};
-use view_steps::flipped;
-use vocabulary::{Flags, Kind, Shape, Step, apply, flags_after, shape_of_kind, window_over};
+use view_steps::turns;
+use vocabulary::{
+    Flags, Kind, PlainStep, Shape, Step, apply, flags_after, shape_of_kind, window_over,
+};
 
 /// What is constant of a view. It is told once, when the view is made.
 #[derive(Clone, Copy)]
@@ -25,6 +28,8 @@ pub struct Facts {
     pub window: Window,
     /// Whether it is walked from the back of its base.
     pub turned: bool,
+    /// Whether a step makes a multimap of a map.
+    pub for_map: bool,
 }
 
 impl Facts {
@@ -46,6 +51,7 @@ impl Facts {
                 hi: Cut::End,
             },
             turned: false,
+            for_map: false,
         }
     }
 
@@ -61,7 +67,12 @@ impl Facts {
             shape: shape_over(self.shape, step),
             flags: flags_after(&self.shape, step, self.flags),
             window: window_over(step, &self.window),
-            turned: flipped(step, self.turned),
+            turned: if turns(step) {
+                !self.turned
+            } else {
+                self.turned
+            },
+            for_map: is_for_map(step) || self.for_map,
         }
     }
 }
@@ -74,4 +85,11 @@ fn shape_over(below: Shape, step: &Step) -> Shape
         Some(shape) => shape,
         None => below,
     }
+}
+
+/// Whether a step makes a multimap of a map.
+fn is_for_map(step: &Step) -> bool
+    ensures { result ≡ views.is_for_map step.now }
+{
+    matches!(step, Step::Plain(PlainStep::ForMap))
 }

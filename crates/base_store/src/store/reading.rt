@@ -1,63 +1,54 @@
-//! Reading the bases of a store by their places.
-ghost use Rattle.std.specs.Prelude.{◌≡◌, ◌<◌, ◌≤◌, ◌+◌, Some, length, true};
+//! Reading the bases of a store by the spots of their rows.
+ghost use Rattle.std.specs.Prelude.{◌≡◌, ◌<◌, ◌≤◌, ◌+◌, IfSome, Some, length, option_map, true};
 ghost use Rattle.std.specs.List.{position};
+ghost use Rattle.base_rows.specs.BaseSpots as spec;
+ghost use Rattle.base_store.specs.Courses.{line_at, spots_at};
 ghost use Rattle.vocabulary.specs.Items.{same_item};
 ghost use Rattle.vocabulary.specs.Kinds.{shape_of_kind};
-ghost use Rattle.view_steps.specs.Lanes.{Follows, IsFrom, Serves, line};
-ghost use Rattle.view_steps.specs.Places as spec;
-ghost use Rattle.vocabulary.specs.Shapes.{is_keyed, is_list};
+ghost use Rattle.view_laws.specs.Following.{Follows, IsFrom};
+ghost use Rattle.view_laws.specs.Serving.{Serves};
+ghost use Rattle.view_laws.specs.Spots as spots;
+ghost use Rattle.vocabulary.specs.Shapes.{is_list};
 ghost use Rattle.vocabulary.specs.declared.items.Item.TheVariants.{One};
-ghost use Rattle.machine.specs.Views.{base};
-ghost use Rattle.machine.specs.Leaves.{stored};
 ghost use Rattle.machine.specs.Bases.{base_at};
-ghost use Rattle.view_steps.specs.declared.places.Place.TheVariants as place;
 
 use super::Store;
+use super::courses::Course;
 use crate::BaseId;
+use base_rows::SpottedRow;
 use elem::{Elem, Steps};
 use std::sync::ledger::Ledger;
-use view_steps::{Lane, Place};
+use view_laws::RowSpot;
 use vocabulary::Item;
 
 impl Store {
-    /// The place that follows another in a lane of a base, or the first one.
-    pub fn next_place<L: Ledger>(
+    /// The row that follows that at a spot on a course, or the first one, with its spot.
+    pub fn next_row<L: Ledger>(
         &self,
-        b: BaseId,
-        lane: &Lane,
-        back: bool,
-        from: Option<Place>,
+        course: &Course,
+        from: &Option<RowSpot>,
         steps: &mut Steps<L>,
-    ) -> Option<Place>
-        requires base { b < length self.now.world }
-        requires serves { Serves (base_at self.now.world b).kind lane.now }
-        requires from { IsFrom (line self.now.world (base (stored b)) lane.now back) from }
-        ensures next { Follows (line self.now.world (base (stored b)) lane.now back) from result }
+    ) -> Option<SpottedRow>
+        requires base { course.now.base < length self.now.world }
+        requires serves { Serves (base_at self.now.world course.now.base).kind course.now.lane }
+        requires from { IsFrom (line_at self.now.world course.now.base course.now.lane course.now.back) from.now }
+        ensures next { Follows (line_at self.now.world course.now.base course.now.lane course.now.back) from.now (option_map (λ found. found.spot) result) }
+        ensures row { IfSome result (λ found. spots.row_at (spots_at self.now.world course.now.base) (base_at self.now.world course.now.base).rows found.spot ≡ Some found.row) }
         ensures step { steps.new ≤ steps.old + 1 }
     {
-        self.slots[b.number()]
+        self.slots[course.base.number()]
             .rows
-            .next_place(lane, back, from, steps)
+            .next_row(&course.lane, course.back, from, steps)
     }
 
-    /// The row at a place of a base.
-    pub fn row_at<L: Ledger>(&self, b: BaseId, at: &Place, steps: &mut Steps<L>) -> Option<Item>
+    /// The row at a spot of a base.
+    pub fn row_at<L: Ledger>(&self, b: BaseId, at: &RowSpot, steps: &mut Steps<L>) -> Option<Item>
         requires base { b < length self.now.world }
-        requires place { IsFrom (spec.places self.now.world (base (stored b))) (Some at.now) }
-        ensures row { result ≡ spec.row_at (base_at self.now.world b).rows at.now }
+        requires spot { IsFrom (spots_at self.now.world b) (Some at.now) }
+        ensures row { result ≡ spots.row_at (spots_at self.now.world b) (base_at self.now.world b).rows at.now }
         ensures step { steps.new ≤ steps.old + 1 }
     {
         self.slots[b.number()].rows.row_at(at, steps)
-    }
-
-    /// The row of a key of a base, which is a set or a map.
-    pub fn row_of_key<L: Ledger>(&self, b: BaseId, k: &Elem, steps: &mut Steps<L>) -> Option<Item>
-        requires base { b < length self.now.world }
-        requires keyed { is_keyed (shape_of_kind (base_at self.now.world b).kind) ≡ true }
-        ensures row { result ≡ spec.row_at (base_at self.now.world b).rows (place.Key k.now) }
-        ensures step { steps.new ≤ steps.old + 1 }
-    {
-        self.slots[b.number()].rows.row_of_key(k, steps)
     }
 
     /// The index of the first row of a base that is the same as an element. The base is a list.

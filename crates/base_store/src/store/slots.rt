@@ -4,8 +4,8 @@ ghost use Rattle.base_rows.specs.Adding.{is_one_more};
 ghost use Rattle.base_rows.specs.BaseRows.{AreRowsOf, IsFree, IsRowOf, IsSpotIn};
 ghost use Rattle.base_rows.specs.Reaches.{Reaches};
 ghost use Rattle.machine.specs.Edits.{adding, edited, removing, with_rows};
-ghost use Rattle.view_steps.specs.Lanes.{IsFrom};
-ghost use Rattle.view_steps.specs.Places.{HasKeys, IsRowAt, places_of};
+ghost use Rattle.base_rows.specs.BaseSpots.{HasKeys, IsRowAt, spots_of};
+ghost use Rattle.view_laws.specs.Following.{IsFrom};
 ghost use Rattle.vocabulary.specs.declared.refusals.Refusal.TheVariants as refusals;
 
 use super::Slot;
@@ -13,7 +13,7 @@ use base_rows::{Reach, RowTest};
 use elem::{NoMemory, Steps};
 use std::alloc::Global;
 use std::sync::ledger::Ledger;
-use view_steps::Place;
+use view_laws::RowSpot;
 use vocabulary::{Item, Refusal, Spot};
 
 impl Slot {
@@ -31,7 +31,7 @@ impl Slot {
         ensures keys { OnOk result (HasKeys self.new) }
         ensures err { OnErr result (self.new ≡ self.old) }
         ensures memory { OnErr result (is_one_more self.old.kind spot self.old.rows row.now ≡ true) }
-        ensures steps { steps.new ≤ steps.old + 2 }
+        ensures steps { steps.new ≤ steps.old + 1 }
     {
         let before = self.rows.len();
         let Ok(()) = self.rows.place(spot, row, steps) else {
@@ -72,11 +72,11 @@ impl Slot {
         }
     }
 
-    /// Removes the row at a place.
-    pub(super) fn remove<L: Ledger>(&mut self, at: &Place, steps: &mut Steps<L>)
+    /// Removes the row at a spot.
+    pub(super) fn remove<L: Ledger>(&mut self, at: &RowSpot, steps: &mut Steps<L>)
         requires change { self.old.change < 2 ^ 63 }
-        requires place { IsFrom (places_of self.old) (Some at.now) }
-        ensures after { (numbers : List ℕ) → IsRowAt self.old.rows at.now numbers → self.new ≡ edited self.old (removing numbers) }
+        requires spot { IsFrom (spots_of self.old.kind self.old.rows) (Some at.now) }
+        ensures after { (numbers : List ℕ) → IsRowAt (spots_of self.old.kind self.old.rows) at.now numbers → self.new ≡ edited self.old (removing numbers) }
         ensures keys { HasKeys self.new }
         ensures steps { steps.new ≤ steps.old + 1 }
     {

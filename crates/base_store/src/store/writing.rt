@@ -9,12 +9,12 @@ ghost use Rattle.machine.specs.CallEdits.{all_hits};
 ghost use Rattle.machine.specs.Edits.{adding, edited, removing};
 ghost use Rattle.view_steps.specs.KnownViews.{edited_at, number_under};
 ghost use Rattle.vocabulary.specs.Kinds.{shape_of_kind};
-ghost use Rattle.view_steps.specs.Lanes.{IsFrom};
+ghost use Rattle.base_rows.specs.BaseSpots.{HasKeys, IsRowAt};
+ghost use Rattle.base_store.specs.Courses.{spots_at};
+ghost use Rattle.view_laws.specs.Following.{IsFrom};
 ghost use Rattle.machine.specs.RowCounts.{rows_in};
 ghost use Rattle.vocabulary.specs.Limits.{most_rows};
 ghost use Rattle.view_steps.specs.Limits.{Grows};
-ghost use Rattle.view_steps.specs.Places as spec;
-ghost use Rattle.view_steps.specs.Places.{HasKeys};
 ghost use Rattle.vocabulary.specs.Shapes.{is_keyed};
 ghost use Rattle.machine.specs.Views.{base, candidates};
 ghost use Rattle.machine.specs.Leaves.{stored};
@@ -27,7 +27,7 @@ use base_rows::BaseRows;
 use elem::{NoMemory, Steps};
 use std::alloc::Global;
 use std::sync::ledger::Ledger;
-use view_steps::Place;
+use view_laws::RowSpot;
 use vocabulary::{Item, Refusal, Spot, key_of};
 
 impl Store {
@@ -52,7 +52,7 @@ impl Store {
         ensures err { OnErr result (self.new ≡ self.old) }
         ensures cause { IfErr result (λ why. ((why ≡ refusals.Limit) × (most_rows < rows_in (edited_at self.old.world b (adding spot (row.now ∷ []))))) ⊎ (why ≡ refusals.NoMemory)) }
         ensures memory { result ≡ Err refusals.NoMemory → Grows self.old.world (edited_at self.old.world b (adding spot (row.now ∷ []))) }
-        ensures steps { steps.new ≤ steps.old + 3 }
+        ensures steps { steps.new ≤ steps.old + 2 }
     {
         let at = b.number();
         let before = rows_at(self.slots.as_slice(), at);
@@ -102,12 +102,12 @@ impl Store {
         }
     }
 
-    /// Removes the row at a place of a base. It takes no memory.
-    pub fn remove_row<L: Ledger>(&mut self, b: BaseId, at: &Place, steps: &mut Steps<L>)
+    /// Removes the row at a spot of a base. It takes no memory.
+    pub fn remove_row<L: Ledger>(&mut self, b: BaseId, at: &RowSpot, steps: &mut Steps<L>)
         requires base { b < length self.old.world }
         requires change { (base_at self.old.world b).change < 2 ^ 63 }
-        requires place { IsFrom (spec.places self.old.world (base (stored b))) (Some at.now) }
-        ensures after { (numbers : List ℕ) → spec.IsRowAt (base_at self.old.world b).rows at.now numbers → self.new ≡ with_world self.old (edited_at self.old.world b (removing numbers)) }
+        requires spot { IsFrom (spots_at self.old.world b) (Some at.now) }
+        ensures after { (numbers : List ℕ) → IsRowAt (spots_at self.old.world b) at.now numbers → self.new ≡ with_world self.old (edited_at self.old.world b (removing numbers)) }
         ensures few { rows_in self.new.world ≤ most_rows }
         ensures steps { steps.new ≤ steps.old + 1 }
     {
@@ -155,7 +155,7 @@ fn adds<L: Ledger>(rows: &BaseRows, spot: Spot, row: &Item, steps: &mut Steps<L>
 {
     match spot {
         Spot::Own => {
-            if !goes_by_key(rows) {
+            if !rows.goes_by_key() {
                 return true;
             }
             rows.row_of_key(&key_of(row), steps).is_none()
@@ -163,13 +163,6 @@ fn adds<L: Ledger>(rows: &BaseRows, spot: Spot, row: &Item, steps: &mut Steps<L>
         Spot::Instead(_) => false,
         _ => true,
     }
-}
-
-/// Whether rows go by key.
-fn goes_by_key(rows: &BaseRows) -> bool
-    ensures { result ≡ is_keyed (shape_of_kind (kind_of rows.now)) }
-{
-    !matches!(rows, BaseRows::ArrayList(_))
 }
 
 /// Puts a row in its spot of a base.
@@ -188,7 +181,7 @@ fn place_in<L: Ledger>(
     ensures keys { OnOk result (HasKeys (edited (base_at slots.old.items b) (adding spot (row.now ∷ [])))) }
     ensures err { OnErr result (slots.new.items ≡ slots.old.items) }
     ensures memory { OnErr result (is_one_more (base_at slots.old.items b).kind spot (base_at slots.old.items b).rows row.now ≡ true) }
-    ensures steps { steps.new ≤ steps.old + 2 }
+    ensures steps { steps.new ≤ steps.old + 1 }
 {
     let slot = &mut slots[b];
     slot.place(spot, row, steps)
@@ -219,13 +212,13 @@ fn place_all_in<L: Ledger>(
     slot.place_all(alloc, spot, rows, room, steps)
 }
 
-/// Removes the row at a place of a base.
-fn remove_in<L: Ledger>(slots: &mut Vec<Slot>, b: usize, at: &Place, steps: &mut Steps<L>)
+/// Removes the row at a spot of a base.
+fn remove_in<L: Ledger>(slots: &mut Vec<Slot>, b: usize, at: &RowSpot, steps: &mut Steps<L>)
     requires base { b < length slots.old.items }
     requires change { (base_at slots.old.items b).change < 2 ^ 63 }
-    requires place { IsFrom (spec.places slots.old.items (base (stored b))) (Some at.now) }
-    ensures after { (numbers : List ℕ) → spec.IsRowAt (base_at slots.old.items b).rows at.now numbers → slots.new.items ≡ edited_at slots.old.items b (removing numbers) }
-    ensures keys { (numbers : List ℕ) → spec.IsRowAt (base_at slots.old.items b).rows at.now numbers → HasKeys (edited (base_at slots.old.items b) (removing numbers)) }
+    requires spot { IsFrom (spots_at slots.old.items b) (Some at.now) }
+    ensures after { (numbers : List ℕ) → IsRowAt (spots_at slots.old.items b) at.now numbers → slots.new.items ≡ edited_at slots.old.items b (removing numbers) }
+    ensures keys { (numbers : List ℕ) → IsRowAt (spots_at slots.old.items b) at.now numbers → HasKeys (edited (base_at slots.old.items b) (removing numbers)) }
     ensures steps { steps.new ≤ steps.old + 1 }
 {
     let slot = &mut slots[b];

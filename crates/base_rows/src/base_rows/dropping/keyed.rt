@@ -5,31 +5,29 @@ ghost use Rattle.elem.specs.declared.elements.Elem.{Elem as Element};
 ghost use Rattle.elem.specs.Elements.{same};
 ghost use Rattle.elem.specs.Keyed.{value_at, IsPresent};
 ghost use Rattle.elem.specs.Rows.{first_key};
-ghost use Rattle.vocabulary.specs.declared.items.Item.{Item as AnItem};
 ghost use Rattle.machine.specs.Edits.{without_rows};
-ghost use Rattle.vocabulary.specs.Items.{key_of};
-ghost use Rattle.view_steps.specs.Lanes.{IsFrom};
-ghost use Rattle.view_steps.specs.Places.{key_place, IsRowAt};
+ghost use Rattle.base_rows.specs.BaseSpots.{key_spot, IsRowAt};
+ghost use Rattle.view_laws.specs.Following.{IsFrom};
 
 use super::super::placing::row_values::RowValue;
 use crate::RowTest;
 use elem::{Elem, Keyed, Steps};
 use linked_base::FreeLinkedMap;
 use std::sync::ledger::Ledger;
-use view_steps::Place;
+use view_laws::RowSpot;
 
-/// Removes the row at a place, which is its key.
+/// Removes the row at a spot, which is its key.
 pub fn remove_key<V: RowValue, K: Keyed<V>, L: Ledger>(
     rows: &mut K,
-    at: &Place,
+    at: &RowSpot,
     steps: &mut Steps<L>,
 )
-    requires { IsFrom (map key_place (items_by V.row_of (K.rows rows.old))) (Some at.now) }
-    ensures rows { (numbers : List ℕ) → IsRowAt (items_by V.row_of (K.rows rows.old)) at.now numbers → items_by V.row_of (K.rows rows.new) ≡ without_rows numbers 0 (items_by V.row_of (K.rows rows.old)) }
+    requires { IsFrom (map key_spot (items_by V.row_of (K.rows rows.old))) (Some at.now) }
+    ensures rows { (numbers : List ℕ) → IsRowAt (map key_spot (items_by V.row_of (K.rows rows.old))) at.now numbers → items_by V.row_of (K.rows rows.new) ≡ without_rows numbers 0 (items_by V.row_of (K.rows rows.old)) }
     ensures steps { steps.new ≤ steps.old + 1 }
 {
     let _len = rows.len();
-    if let Place::Key(k) = at {
+    if let RowSpot::Key(k) = at {
         rows.remove(*k, steps);
     }
 }
@@ -76,7 +74,7 @@ pub fn drop_keys<V: RowValue, K: Keyed<V>, T: RowTest, L: Ledger>(
     test: &T,
     steps: &mut Steps<L>,
 )
-    requires { (row : AnItem) → T.passes test.now row ≡ true → is_some (value_at keys.now (key_of row)) ≡ true }
+    requires { (k : Element) (v : V) → T.passes test.now (V.row_of k v) ≡ true → is_some (value_at keys.now k) ≡ true }
     ensures rows { items_by V.row_of (K.rows rows.new) ≡ filter (λ row. not (T.passes test.now row)) (items_by V.row_of (K.rows rows.old)) }
     ensures steps { steps.new ≤ steps.old + 2 * length keys.now }
 {

@@ -2,8 +2,8 @@
 ghost use Rattle.std.specs.Prelude.{◌≡◌, ℕ, List, Some, filter, not, take, length, ◌≤◌, ◌+◌};
 ghost use Rattle.base_rows.specs.BaseRows.{items};
 ghost use Rattle.machine.specs.Edits.{without_rows};
-ghost use Rattle.view_steps.specs.Lanes.{IsFrom};
-ghost use Rattle.view_steps.specs.Places.{numbered, IsRowAt};
+ghost use Rattle.base_rows.specs.BaseSpots.{numbered, IsRowAt};
+ghost use Rattle.view_laws.specs.Following.{IsFrom};
 ghost use Rattle.vocabulary.specs.declared.items.Item.TheVariants.{One};
 
 use super::super::placing::listed::remove_run;
@@ -11,16 +11,16 @@ use crate::RowTest;
 use elem::{Elem, Steps};
 use plain_base::ArrayRows;
 use std::sync::ledger::Ledger;
-use view_steps::Place;
+use view_laws::RowSpot;
 use vocabulary::Item;
 
-/// Removes the item at a place, which is its index.
-pub fn remove_index<L: Ledger>(rows: &mut ArrayRows, at: &Place, steps: &mut Steps<L>)
+/// Removes the item at a spot, which is its index.
+pub fn remove_index<L: Ledger>(rows: &mut ArrayRows, at: &RowSpot, steps: &mut Steps<L>)
     requires { IsFrom (numbered 0 (items rows.old)) (Some at.now) }
-    ensures rows { (numbers : List ℕ) → IsRowAt (items rows.old) at.now numbers → items rows.new ≡ without_rows numbers 0 (items rows.old) }
+    ensures rows { (numbers : List ℕ) → IsRowAt (numbered 0 (items rows.old)) at.now numbers → items rows.new ≡ without_rows numbers 0 (items rows.old) }
     ensures steps { steps.new ≤ steps.old + 1 }
 {
-    if let Place::Index(i) = at {
+    if let RowSpot::Index(i) = at {
         rows.remove_at(*i, steps);
     }
 }

@@ -7,35 +7,40 @@ ghost use Rattle.vocabulary.specs.declared.refusals.Refusal.TheVariants as refus
 
 use super::row_values::RowValue;
 use elem::{Elem, Keyed, NoMemory, Steps};
+use linked_base::LinkedMap;
 use std::alloc::Global;
 use std::sync::ledger::Ledger;
 use vocabulary::{Item, Refusal, key_of};
 
-/// Puts a value at a key, and tells the one before. It takes memory only for a new key.
-fn put<V: Copy, K: Keyed<V>, L: Ledger>(
-    rows: &mut K,
-    k: &Elem,
-    v: V,
-    steps: &mut Steps<L>,
-) -> Result<Option<V>, NoMemory>
-    ensures ok { OnOk result (K.rows rows.new ≡ with_row K.inserted (K.rows rows.old) k.now v) }
-    ensures before { IfOk result (λ before. before ≡ value_at (K.rows rows.old) k.now) }
-    ensures err { OnErr result (K.rows rows.new ≡ K.rows rows.old) }
-    ensures memory { OnErr result (value_at (K.rows rows.old) k.now ≡ None) }
-    ensures steps { steps.new ≤ steps.old + 2 }
-{
-    if let Some(before) = rows.probe(*k, steps) {
-        rows.replace(*k, v, steps);
-        return Ok(Some(before));
-    }
-    match rows.insert(*k, v, steps) {
-        Ok(()) => Ok(None),
-        Err(refused) => Err(refused),
+/// The rows of a set or a map, which take a value at a key in one call.
+pub trait PutsRows<V: Copy>: Keyed<V> {
+    /// Puts a value at a key, and tells the one before. It takes memory only for a new key.
+    fn put_value<L: Ledger>(
+        &mut self,
+        k: &Elem,
+        v: V,
+        steps: &mut Steps<L>,
+    ) -> Result<Option<V>, NoMemory>
+        ensures ok { OnOk result (Self.rows self.new ≡ with_row Self.inserted (Self.rows self.old) k.now v) }
+        ensures before { IfOk result (λ before. before ≡ value_at (Self.rows self.old) k.now) }
+        ensures err { OnErr result (Self.rows self.new ≡ Self.rows self.old) }
+        ensures memory { OnErr result (value_at (Self.rows self.old) k.now ≡ None) }
+        ensures step { steps.new ≡ steps.old + 1 };
+}
+
+impl<V: Copy> PutsRows<V> for LinkedMap<V> {
+    fn put_value<L: Ledger>(
+        &mut self,
+        k: &Elem,
+        v: V,
+        steps: &mut Steps<L>,
+    ) -> Result<Option<V>, NoMemory> {
+        self.put(*k, v, steps)
     }
 }
 
 /// Puts a row of a set or a map. It takes memory only for a new key.
-pub fn put_row<V: RowValue, K: Keyed<V>, L: Ledger>(
+pub fn put_row<V: RowValue, K: PutsRows<V>, L: Ledger>(
     rows: &mut K,
     row: &Item,
     steps: &mut Steps<L>,
@@ -43,9 +48,9 @@ pub fn put_row<V: RowValue, K: Keyed<V>, L: Ledger>(
     ensures ok { OnOk result (K.rows rows.new ≡ with_item K.inserted V.value_in (K.rows rows.old) row.now) }
     ensures err { OnErr result (K.rows rows.new ≡ K.rows rows.old) }
     ensures memory { OnErr result (value_at (K.rows rows.old) (key_of row.now) ≡ None) }
-    ensures steps { steps.new ≤ steps.old + 2 }
+    ensures step { steps.new ≡ steps.old + 1 }
 {
-    match put(rows, &key_of(row), V::value(row), steps) {
+    match rows.put_value(&key_of(row), V::value(row), steps) {
         Ok(_) => Ok(()),
         Err(refused) => Err(refused),
     }
@@ -83,7 +88,7 @@ fn undo_all<V: Copy, K: Keyed<V>, L: Ledger>(
 }
 
 /// Puts rows, one after another, where no more than so many new ones come. All or none are put.
-pub fn put_all<V: RowValue, K: Keyed<V>, L: Ledger>(
+pub fn put_all<V: RowValue, K: PutsRows<V>, L: Ledger>(
     alloc: Global,
     rows: &mut K,
     added: &[Item],
@@ -101,7 +106,7 @@ pub fn put_all<V: RowValue, K: Keyed<V>, L: Ledger>(
     };
     for row in added {
         let k = key_of(row);
-        let Ok(before) = put(rows, &k, V::value(row), steps) else {
+        let Ok(before) = rows.put_value(&k, V::value(row), steps) else {
             undo_all(rows, journal, steps);
             return Err(Refusal::NoMemory);
         };

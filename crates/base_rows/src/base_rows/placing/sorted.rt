@@ -6,13 +6,24 @@ ghost use Rattle.base_rows.specs.Journals.{with_item};
 ghost use Rattle.plain_base.specs.Sorted.{IsInOrder, placed};
 ghost use Rattle.vocabulary.specs.declared.refusals.Refusal.TheVariants as refusals;
 
-use super::keyed::{put_all, put_row};
+use super::keyed::{PutsRows, put_all, put_row};
 use super::row_values::RowValue;
-use elem::{Compare, Keyed, NoMemory, Steps};
+use elem::{Compare, Elem, Keyed, NoMemory, Steps};
 use plain_base::TreeMapRows;
 use std::alloc::Global;
 use std::sync::ledger::Ledger;
 use vocabulary::{Item, Refusal};
+
+impl<V: Copy, C: Compare> PutsRows<V> for TreeMapRows<V, C> {
+    fn put_value<L: Ledger>(
+        &mut self,
+        k: &Elem,
+        v: V,
+        steps: &mut Steps<L>,
+    ) -> Result<Option<V>, NoMemory> {
+        self.put(*k, v, steps)
+    }
+}
 
 /// Puts a row of a sorted set or map, as `put_row`.
 pub fn put_sorted<V: RowValue, C: Compare, L: Ledger>(
@@ -24,7 +35,7 @@ pub fn put_sorted<V: RowValue, C: Compare, L: Ledger>(
     ensures ok { OnOk result (rows.new ≡ with_item (placed C.before) V.value_in rows.old row.now) }
     ensures err { OnErr result (rows.new ≡ rows.old) }
     ensures memory { OnErr result (value_at rows.old (key_of row.now) ≡ None) }
-    ensures steps { steps.new ≤ steps.old + 2 }
+    ensures step { steps.new ≡ steps.old + 1 }
 {
     let _len = rows.len();
     put_row(rows, row, steps)

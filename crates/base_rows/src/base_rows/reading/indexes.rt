@@ -1,46 +1,58 @@
-//! The indexes of a list, one after another, and items by their indexes.
-ghost use Rattle.std.specs.Prelude.{◌≡◌, ◌≤◌, ◌+◌, List, length, slice_get, option_and_then, option_map};
+//! The items of a list, one after another, and items by their indexes.
+ghost use Rattle.std.specs.Prelude.{◌≡◌, ◌≤◌, ◌+◌, IfSome, Some, List, length, slice_get, option_and_then, option_map};
 ghost use Rattle.std.specs.List.{position};
 ghost use Rattle.base_rows.specs.BaseRows.{items};
+ghost use Rattle.base_rows.specs.BaseSpots.{numbered};
 ghost use Rattle.base_rows.specs.KeyLines as spec;
-ghost use Rattle.view_steps.specs.Lanes.{Follows, IsFrom};
+ghost use Rattle.view_laws.specs.Following.{Follows, IsFrom};
 ghost use Rattle.view_laws.specs.Lanes.{turned_if};
-ghost use Rattle.view_steps.specs.Places.{numbered, row_at};
+ghost use Rattle.view_laws.specs.Spots.{row_at};
+ghost use Rattle.view_laws.specs.declared.places.RowSpot.TheVariants as spot;
 ghost use Rattle.vocabulary.specs.Items.{same_item};
 ghost use Rattle.vocabulary.specs.declared.items.Item.{Item as AnItem};
 ghost use Rattle.vocabulary.specs.declared.items.Item.TheVariants.{One};
-ghost use Rattle.view_steps.specs.declared.places.Place.TheVariants as place;
 
+use crate::SpottedRow;
 use elem::{Elem, Steps};
 use plain_base::ArrayRows;
 use std::sync::ledger::Ledger;
-use view_steps::Place;
+use view_laws::RowSpot;
 use vocabulary::Item;
 
-/// The index that a place is.
-pub fn index_at(place: Option<Place>) -> Option<usize>
-    ensures { result ≡ option_and_then spec.index_at place }
+/// The index that a spot is.
+pub fn index_at(spot: &Option<RowSpot>) -> Option<usize>
+    ensures { result ≡ option_and_then spec.index_at spot.now }
 {
-    match place {
-        Some(Place::Index(i)) => Some(i),
+    match spot {
+        Some(RowSpot::Index(i)) => Some(*i),
         _ => None,
     }
 }
 
-/// The place that an index is.
-pub fn place_of_index(index: Option<usize>) -> Option<Place>
-    ensures { result ≡ option_map place.Index index }
+/// The item that follows that at an index of a list, or the first one.
+pub fn next_item<L: Ledger>(
+    rows: &ArrayRows,
+    back: bool,
+    from: Option<usize>,
+    steps: &mut Steps<L>,
+) -> Option<SpottedRow>
+    requires { IsFrom (turned_if back (numbered 0 (items rows.now))) (option_map spot.Index from) }
+    ensures next { Follows (turned_if back (numbered 0 (items rows.now))) (option_map spot.Index from) (option_map (λ found. found.spot) result) }
+    ensures row { IfSome result (λ found. row_at (numbered 0 (items rows.now)) (items rows.now) found.spot ≡ Some found.row) }
+    ensures step { steps.new ≤ steps.old + 1 }
 {
-    match index {
-        Some(i) => Some(Place::Index(i)),
-        None => None,
-    }
+    let i = next_index(rows, back, from)?;
+    let x = rows.at(i, steps)?;
+    Some(SpottedRow {
+        spot: RowSpot::Index(i),
+        row: Item::One(x),
+    })
 }
 
 /// The index that follows another in a list, or the first one.
-pub fn next_index(rows: &ArrayRows, back: bool, from: Option<usize>) -> Option<usize>
-    requires { IsFrom (turned_if back (numbered 0 (items rows.now))) (option_map place.Index from) }
-    ensures { Follows (turned_if back (numbered 0 (items rows.now))) (option_map place.Index from) (option_map place.Index result) }
+fn next_index(rows: &ArrayRows, back: bool, from: Option<usize>) -> Option<usize>
+    requires { IsFrom (turned_if back (numbered 0 (items rows.now))) (option_map spot.Index from) }
+    ensures { Follows (turned_if back (numbered 0 (items rows.now))) (option_map spot.Index from) (option_map spot.Index result) }
 {
     let len = rows.len();
     match from {
@@ -59,7 +71,7 @@ pub fn next_index(rows: &ArrayRows, back: bool, from: Option<usize>) -> Option<u
 
 /// The first index of a list of so many items, from the front or from the back.
 fn first_index(len: usize, back: bool) -> Option<usize>
-    ensures { (rows : List AnItem) → length rows ≡ len → slice_get (turned_if back (numbered 0 rows)) 0 ≡ option_map place.Index result }
+    ensures { (rows : List AnItem) → length rows ≡ len → slice_get (turned_if back (numbered 0 rows)) 0 ≡ option_map spot.Index result }
 {
     if len == 0 {
         None
@@ -72,7 +84,7 @@ fn first_index(len: usize, back: bool) -> Option<usize>
 
 /// The item at an index.
 pub fn item_at<L: Ledger>(rows: &ArrayRows, i: usize, steps: &mut Steps<L>) -> Option<Item>
-    ensures row { result ≡ row_at (items rows.now) (place.Index i) }
+    ensures row { result ≡ slice_get (items rows.now) i }
     ensures step { steps.new ≤ steps.old + 1 }
 {
     match rows.at(i, steps) {

@@ -1,126 +1,190 @@
-//! The keys of a set or a map, one after another, and rows by their keys.
-ghost use Rattle.std.specs.Prelude.{◌≡◌, ◌≤◌, ◌+◌, true, filter, option_and_then, option_map};
+//! The rows of a set or a map, one after another, and rows by their keys.
+ghost use Rattle.std.specs.Prelude.{◌≡◌, ◌≤◌, ◌+◌, Bool, List, IfSome, Some, true, filter, option_and_then, option_map};
 ghost use Rattle.std.specs.Map.{keys_of};
 ghost use Rattle.base_rows.specs.BaseRows.{entries, members};
+ghost use Rattle.base_rows.specs.BaseSpots.{key_spot, row_of_key};
+ghost use Rattle.base_rows.specs.Journals.{items_by};
+ghost use Rattle.elem.specs.declared.elements.Elem.{Elem as Element};
+ghost use Rattle.vocabulary.specs.Items as items;
 ghost use Rattle.base_rows.specs.KeyLines as spec;
-ghost use Rattle.base_rows.specs.KeyLines.{key_line, rest_of, HasNoWindow, HasWindowIn, IsKeyFrom, KeyFollows};
+ghost use Rattle.base_rows.specs.KeyLines.{key_in, key_line, rest_of, HasNoWindow, HasWindowIn, IsOneOf};
+ghost use Rattle.view_laws.specs.Following.{Follows, IsFrom};
 ghost use Rattle.view_laws.specs.Lanes.{turned_if};
-ghost use Rattle.view_steps.specs.Places.{row_at};
-ghost use Rattle.view_steps.specs.declared.lanes.Lane.TheVariants as lanes;
+ghost use Rattle.view_laws.specs.declared.lanes.PartAsk.TheVariants as asks;
 ghost use Rattle.elem.specs.Cuts.{cut_upto, lies_between};
-ghost use Rattle.view_steps.specs.declared.places.Place.TheVariants as place;
 
+use super::super::placing::row_values::RowValue;
+use crate::SpottedRow;
 use elem::{Compare, Cut, Elem, Keyed, Steps, Window};
+use linked_base::LinkedMap;
 use plain_base::TreeMapRows;
 use std::sync::ledger::Ledger;
-use view_steps::{Lane, Place};
-use vocabulary::Item;
+use view_laws::{PartAsk, RowSpot};
+use vocabulary::{Item, key_of};
 
-/// The key that a place is.
-pub fn key_at(place: Option<Place>) -> Option<Elem>
-    ensures { result ≡ option_and_then spec.key_at place }
+/// The key that a spot is.
+pub fn key_at(spot: &Option<RowSpot>) -> Option<Elem>
+    ensures { result ≡ option_and_then spec.key_at spot.now }
 {
-    match place {
-        Some(Place::Key(k)) => Some(k),
+    match spot {
+        Some(RowSpot::Key(k)) => Some(*k),
         _ => None,
     }
 }
 
-/// The place that a key is.
-pub fn place_of_key(key: Option<Elem>) -> Option<Place>
-    ensures { result ≡ option_map place.Key key }
+/// The row of a key and of what stands beside it, and its spot, which is the key.
+fn spotted<V: RowValue>(row: Option<(Elem, V)>) -> Option<SpottedRow>
+    ensures key { option_map (λ found. items.key_of found.row) result ≡ key_in row }
+    ensures spot { IfSome result (λ found. found.spot ≡ key_spot found.row) }
+    ensures row { (rows : List (Element × V)) → IsOneOf rows row → IfSome result (λ found. row_of_key (items_by V.row_of rows) (items.key_of found.row) ≡ Some found.row) }
 {
-    match key {
-        Some(k) => Some(Place::Key(k)),
+    match row {
+        Some((k, v)) => {
+            let row = V::row(k, v);
+            let spot = RowSpot::Key(key_of(&row));
+            Some(SpottedRow { spot, row })
+        }
         None => None,
     }
 }
 
-/// The key that follows another in a lane without a window, or the first one.
-pub fn next_in_lane<V: Copy, K: Keyed<V>, L: Ledger>(
-    rows: &K,
-    lane: &Lane,
+/// The row that follows that of a key in a linked set or map, of those whose keys are as asked, or the first one.
+pub fn next_linked<V: RowValue, L: Ledger>(
+    rows: &LinkedMap<V>,
+    ask: &PartAsk,
     back: bool,
     from: Option<Elem>,
     steps: &mut Steps<L>,
-) -> Option<Elem>
-    requires lane { HasNoWindow lane.now }
-    requires from { IsKeyFrom (key_line lane.now back (keys_of (K.rows rows.now))) from }
-    ensures next { KeyFollows (key_line lane.now back (keys_of (K.rows rows.now))) from result }
+) -> Option<SpottedRow>
+    requires ask { HasNoWindow ask.now }
+    requires from { IsFrom (key_line ask.now back (keys_of rows.now)) from }
+    ensures next { Follows (key_line ask.now back (keys_of rows.now)) from (option_map (λ found. items.key_of found.row) result) }
+    ensures spot { IfSome result (λ found. found.spot ≡ key_spot found.row) }
+    ensures row { IfSome result (λ found. row_of_key (items_by V.row_of rows.now) (items.key_of found.row) ≡ Some found.row) }
     ensures step { steps.new ≤ steps.old + 1 }
 {
-    match lane {
-        Lane::All => next_key(rows, back, from, steps),
-        Lane::OfKey(k) => only_key(rows, k, back, from, steps),
-        Lane::Within(_, _) => None,
-        Lane::Nothing => None,
-    }
+    spotted(linked_row(rows, ask, back, from, steps))
 }
 
-/// The key that follows another in a lane of sorted rows, or the first one.
-pub fn next_sorted<V: Copy, C: Compare, L: Ledger>(
+/// The same of a sorted set or map.
+pub fn next_sorted<V: RowValue, C: Compare, L: Ledger>(
     rows: &TreeMapRows<V, C>,
-    lane: &Lane,
+    ask: &PartAsk,
     back: bool,
     from: Option<Elem>,
     steps: &mut Steps<L>,
-) -> Option<Elem>
-    requires lane { HasWindowIn C.before lane.now }
-    requires from { IsKeyFrom (key_line lane.now back (keys_of rows.now)) from }
-    ensures next { KeyFollows (key_line lane.now back (keys_of rows.now)) from result }
+) -> Option<SpottedRow>
+    requires ask { HasWindowIn C.before ask.now }
+    requires from { IsFrom (key_line ask.now back (keys_of rows.now)) from }
+    ensures next { Follows (key_line ask.now back (keys_of rows.now)) from (option_map (λ found. items.key_of found.row) result) }
+    ensures spot { IfSome result (λ found. found.spot ≡ key_spot found.row) }
+    ensures row { IfSome result (λ found. row_of_key (items_by V.row_of rows.now) (items.key_of found.row) ≡ Some found.row) }
     ensures step { steps.new ≤ steps.old + 1 }
 {
-    match lane {
-        Lane::Within(_, window) => next_in_window(rows, window, back, from, steps),
-        _ => next_in_lane(rows, lane, back, from, steps),
+    spotted(sorted_row(rows, ask, back, from, steps))
+}
+
+/// The key and the value of the row that follows in a linked set or map.
+fn linked_row<V: Copy, L: Ledger>(
+    rows: &LinkedMap<V>,
+    ask: &PartAsk,
+    back: bool,
+    from: Option<Elem>,
+    steps: &mut Steps<L>,
+) -> Option<(Elem, V)>
+    requires ask { HasNoWindow ask.now }
+    requires from { IsFrom (key_line ask.now back (keys_of rows.now)) from }
+    ensures next { Follows (key_line ask.now back (keys_of rows.now)) from (key_in result) }
+    ensures row { IsOneOf rows.now result }
+    ensures step { steps.new ≤ steps.old + 1 }
+{
+    match ask {
+        PartAsk::Any => next_of_linked(rows, back, from, steps),
+        PartAsk::Is(k) => only_row(rows, k, from, steps),
+        PartAsk::Within(_, _) => None,
+        PartAsk::Nothing => None,
     }
 }
 
-/// The key that follows another in the order of the rows, or the first one.
-fn next_key<V: Copy, K: Keyed<V>, L: Ledger>(
-    rows: &K,
+/// The same of a sorted set or map.
+fn sorted_row<V: Copy, C: Compare, L: Ledger>(
+    rows: &TreeMapRows<V, C>,
+    ask: &PartAsk,
     back: bool,
     from: Option<Elem>,
     steps: &mut Steps<L>,
-) -> Option<Elem>
-    requires { IsKeyFrom (key_line lanes.All back (keys_of (K.rows rows.now))) from }
-    ensures next { KeyFollows (key_line lanes.All back (keys_of (K.rows rows.now))) from result }
+) -> Option<(Elem, V)>
+    requires ask { HasWindowIn C.before ask.now }
+    requires from { IsFrom (key_line ask.now back (keys_of rows.now)) from }
+    ensures next { Follows (key_line ask.now back (keys_of rows.now)) from (key_in result) }
+    ensures row { IsOneOf rows.now result }
+    ensures step { steps.new ≤ steps.old + 1 }
+{
+    match ask {
+        PartAsk::Any => next_of_sorted(rows, back, from, steps),
+        PartAsk::Is(k) => only_row(rows, k, from, steps),
+        PartAsk::Within(_, window) => next_in_window(rows, window, back, from, steps),
+        PartAsk::Nothing => None,
+    }
+}
+
+/// The row that follows that of a key in the order of a linked set or map, or the first one.
+fn next_of_linked<V: Copy, L: Ledger>(
+    rows: &LinkedMap<V>,
+    back: bool,
+    from: Option<Elem>,
+    steps: &mut Steps<L>,
+) -> Option<(Elem, V)>
+    requires { IsFrom (key_line asks.Any back (keys_of rows.now)) from }
+    ensures next { Follows (key_line asks.Any back (keys_of rows.now)) from (key_in result) }
+    ensures row { IsOneOf rows.now result }
     ensures step { steps.new ≤ steps.old + 1 }
 {
     let _len = rows.len();
-    match from {
-        None => {
-            if back {
-                rows.last(steps)
-            } else {
-                rows.first(steps)
-            }
-        }
-        Some(k) => {
-            if back {
-                rows.before(k, steps)
-            } else {
-                rows.after(k, steps)
-            }
-        }
+    match (from, back) {
+        (None, false) => rows.first_row(steps),
+        (None, true) => rows.last_row(steps),
+        (Some(k), false) => rows.row_after(k, steps),
+        (Some(k), true) => rows.row_before(k, steps),
     }
 }
 
-/// The key of a lane of one key, where the rows have it. None follows it.
-fn only_key<V: Copy, K: Keyed<V>, L: Ledger>(
-    rows: &K,
-    k: &Elem,
+/// The same of a sorted set or map.
+fn next_of_sorted<V: Copy, C: Compare, L: Ledger>(
+    rows: &TreeMapRows<V, C>,
     back: bool,
     from: Option<Elem>,
     steps: &mut Steps<L>,
-) -> Option<Elem>
-    ensures next { KeyFollows (key_line (lanes.OfKey k.now) back (keys_of (K.rows rows.now))) from result }
+) -> Option<(Elem, V)>
+    requires { IsFrom (key_line asks.Any back (keys_of rows.now)) from }
+    ensures next { Follows (key_line asks.Any back (keys_of rows.now)) from (key_in result) }
+    ensures row { IsOneOf rows.now result }
+    ensures step { steps.new ≤ steps.old + 1 }
+{
+    let _len = rows.len();
+    match (from, back) {
+        (None, false) => rows.first_row(steps),
+        (None, true) => rows.last_row(steps),
+        (Some(k), false) => rows.row_after(k, steps),
+        (Some(k), true) => rows.row_before(k, steps),
+    }
+}
+
+/// The one row of a key, where the rows have it. None follows it.
+fn only_row<V: Copy, K: Keyed<V>, L: Ledger>(
+    rows: &K,
+    k: &Elem,
+    from: Option<Elem>,
+    steps: &mut Steps<L>,
+) -> Option<(Elem, V)>
+    ensures next { (back : Bool) → Follows (key_line (asks.Is k.now) back (keys_of (K.rows rows.now))) from (key_in result) }
+    ensures row { IsOneOf (K.rows rows.now) result }
     ensures step { steps.new ≤ steps.old + 1 }
 {
     let _len = rows.len();
     match from {
         None => match rows.probe(*k, steps) {
-            Some(_) => Some(*k),
+            Some(v) => Some((*k, v)),
             None => None,
         },
         Some(_) => None,
@@ -149,25 +213,26 @@ fn rest_of(window: &Window, back: bool, from: Option<Elem>) -> Window
     }
 }
 
-/// The key that follows another in a window of sorted rows, or the first one: the first in the rest of the window.
+/// The row that follows that of a key in a window of sorted rows, or the first one: the first in the rest of the window.
 fn next_in_window<V: Copy, C: Compare, L: Ledger>(
     rows: &TreeMapRows<V, C>,
     window: &Window,
     back: bool,
     from: Option<Elem>,
     steps: &mut Steps<L>,
-) -> Option<Elem>
+) -> Option<(Elem, V)>
     requires window { cut_upto C.before window.now.lo window.now.hi ≡ true }
-    requires from { IsKeyFrom (turned_if back (filter (lies_between C.before window.now.lo window.now.hi) (keys_of rows.now))) from }
-    ensures next { KeyFollows (turned_if back (filter (lies_between C.before window.now.lo window.now.hi) (keys_of rows.now))) from result }
+    requires from { IsFrom (turned_if back (filter (lies_between C.before window.now.lo window.now.hi) (keys_of rows.now))) from }
+    ensures next { Follows (turned_if back (filter (lies_between C.before window.now.lo window.now.hi) (keys_of rows.now))) from (key_in result) }
+    ensures row { IsOneOf rows.now result }
     ensures step { steps.new ≤ steps.old + 1 }
 {
     let _len = rows.len();
     let rest = rest_of(window, back, from);
     if back {
-        rows.last_in(&rest, steps)
+        rows.last_row_in(&rest, steps)
     } else {
-        rows.first_in(&rest, steps)
+        rows.first_row_in(&rest, steps)
     }
 }
 
@@ -178,7 +243,7 @@ pub fn member_of_key<K: Keyed<()>, L: Ledger>(
     k: &Elem,
     steps: &mut Steps<L>,
 ) -> Option<Item>
-    ensures row { result ≡ row_at (members (K.rows rows.now)) (place.Key k.now) }
+    ensures row { result ≡ row_of_key (members (K.rows rows.now)) k.now }
     ensures step { steps.new ≤ steps.old + 1 }
 {
     match rows.probe(*k, steps) {
@@ -194,7 +259,7 @@ pub fn entry_of_key<K: Keyed<Elem>, L: Ledger>(
     k: &Elem,
     steps: &mut Steps<L>,
 ) -> Option<Item>
-    ensures row { result ≡ row_at (entries (K.rows rows.now)) (place.Key k.now) }
+    ensures row { result ≡ row_of_key (entries (K.rows rows.now)) k.now }
     ensures step { steps.new ≤ steps.old + 1 }
 {
     match rows.probe(*k, steps) {

@@ -1,21 +1,33 @@
-use Rattle.std.proofs.Common.{ℕ, sym, ◌∙◌, ap, Bool}
+use Rattle.std.proofs.Common.{ℕ, sym, ◌∙◌, ap, subst, Bool, Option}
 use Rattle.std.specs.Prelude.{drop, find}
 use Rattle.base_store.specs.Stored.{view_in}
 use Rattle.vocabulary.specs.declared.items.Item.{Item}
+use Rattle.view_laws.specs.declared.places.RowSpot.{RowSpot}
 use Rattle.machine.specs.CallEdits.{is_hit}
 use Rattle.machine.specs.Views.{candidates}
-use Rattle.read_chain.proofs.FindLemmas.{found_from, walk_hit}
+use Rattle.read_chain.proofs.FindLemmas.{HitStands, found_from, walk_hit}
 use Rattle.read_chain.proofs.finding.find_place.Goals as goal
-use Rattle.read_chain.proofs.UnderLemmas.{keys_under}
 use Rattle.view_steps.proofs.HitLemmas.{hit_later, no_hit}
 
-pub returns-then-is_hit-clause-some : goal.returns-then-is_hit-clause-some
-returns-then-is_hit-clause-some g c =
+pub returns-in-Some-last-clause-some : goal.returns-in-Some-last-clause-some
+returns-in-Some-last-clause-some g c =
     let s = c.args.store.now in
-    let v = view_in s c.args.n in
-    let keys = keys_under s.world v c.base_of-base.result c.base_of-base.ensures.known c.base_of-base.ensures.base c.base_of-base.ensures.keys in
-    rw (c.last.ensures) (walk_hit s c.args.n (g.T.RowTest.passes c.args.test.now) c.loop-found.walk c.pass.new.self c.in-Some.found _ c.base_of-base.ensures.known keys c.loop-found.invariant.node c.loop-found.invariant.front
-    c.in-Some.ensures.node c.in-Some.ensures.back c.in-Some.ensures.passed c.in-Some.ensures.walk c.in-Some.ensures.found (sym c.is_hit.ensures ∙ c.if-is_hit.true) c.loop-found.invariant.rest).1
+    let passes : Item → Bool = g.T.RowTest.passes c.args.test.now in
+    let laws = c.is_lawful.ensures in
+    let walk = c.loop-found.invariant in
+    let hit : HitStands s.world (view_in s c.args.n) passes c.pass.new.self.last = walk_hit s c.args.n passes c.loop-found.walk c.pass.new.self c.in-Some.found _ c.base_of-base.ensures.known laws.by_row laws.formed laws.tell walk.node walk.front
+    c.in-Some.ensures.node c.in-Some.ensures.back c.in-Some.ensures.passed c.in-Some.ensures.walk c.in-Some.ensures.found (sym c.is_hit.ensures ∙ c.if-is_hit.true) walk.rest in
+    rw (c.at_spot.ensures) (subst (λ (o : Option RowSpot). HitStands s.world (view_in s c.args.n) passes o) (sym c.in-Some-last.ensures) hit).1
+
+pub returns-in-None-clause-none : goal.returns-in-None-clause-none
+returns-in-None-clause-none g c =
+    let s = c.args.store.now in
+    let passes : Item → Bool = g.T.RowTest.passes c.args.test.now in
+    let laws = c.is_lawful.ensures in
+    let walk = c.loop-found.invariant in
+    let hit : HitStands s.world (view_in s c.args.n) passes c.pass.new.self.last = walk_hit s c.args.n passes c.loop-found.walk c.pass.new.self c.in-Some.found _ c.base_of-base.ensures.known laws.by_row laws.formed laws.tell walk.node walk.front
+    c.in-Some.ensures.node c.in-Some.ensures.back c.in-Some.ensures.passed c.in-Some.ensures.walk c.in-Some.ensures.found (sym c.is_hit.ensures ∙ c.if-is_hit.true) walk.rest in
+    absurd (subst (λ (o : Option RowSpot). HitStands s.world (view_in s c.args.n) passes o) (sym c.in-None.ensures) hit).0
 
 pub loop-found-preserved : goal.loop-found-preserved
 loop-found-preserved g c =

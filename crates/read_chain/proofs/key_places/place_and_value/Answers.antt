@@ -1,44 +1,41 @@
 use Rattle.std.proofs.Common.{Bool, cond, map, sym, ap, ◌∙◌, true, false, Some, None}
 use Rattle.std.specs.Option.{option_map}
 use Rattle.base_store.specs.Stored.{view_in}
-use Rattle.view_steps.specs.declared.lanes.Lane.TheVariants.{OfKey}
 use Rattle.machine.specs.Shown.{has_key}
 use Rattle.vocabulary.specs.Items.{value_of}
 use Rattle.view_laws.specs.Places.{found_in}
 use Rattle.machine.specs.Views.{candidates}
 use Rattle.view_steps.proofs.HitLemmas.{no_key_hit, key_missed}
 use Rattle.read_chain.proofs.KeyPlaceLemmas.{key_hit, seen_hit, value_found}
-use Rattle.read_chain.proofs.UnderLemmas.{goes_straight, keys_under}
 use Rattle.read_chain.proofs.key_places.place_and_value.Goals as goal
 
-pub returns-then-found : goal.returns-then-found
-returns-then-found g c =
+pub returns-then-there : goal.returns-then-there
+returns-then-there g c =
     let s = c.args.store.now in
     let v = view_in s c.args.n in
     let k = c.args.k.now in
     let cs = candidates s.world v in
-    let d = c.in-Some.found in
+    let d = c.in-Some.there.found in
     let one = c.in-Some.ensures.found in
-    let keys = keys_under s.world v c.base_of-base.result c.base_of-base.ensures.known c.base_of-base.ensures.base c.base_of-base.ensures.keys in
     record {
       none = tt;
-      some = key_hit s.world v (has_key k) k d c.base_of-base.ensures.known keys (goes_straight s.world v (OfKey k) c.base_of-base.result c.base_of-base.ensures.known c.base_of-base.ensures.base c.base_of-base.ensures.kind c.base_of-base.ensures.made c.requires.keyed) (λ item h. h) one (seen_hit k (map found_in cs) d true one c.if-found.true);
-      value = ap Some c.value_of.ensures ∙ sym (value_found k cs (Some d) one ∙ ap (λ (b : Bool). option_map value_of (cond b (Some d.item) None)) c.if-found.true);
+      some = rw (c.at_spot.ensures) (key_hit s.world v (has_key k) k c.in-Some.there.spot d c.in-Some.ensures.spot (λ item h. h) one (seen_hit k (map found_in cs) d true one c.if-there.true));
+      value = ap Some c.value_of.ensures ∙ sym (value_found k cs (Some d) one ∙ ap (λ (b : Bool). option_map value_of (cond b (Some d.item) None)) c.if-there.true);
       step = c.in-Some.ensures.step;
     }
 
-pub returns-else-found : goal.returns-else-found
-returns-else-found g c =
+pub returns-else-there : goal.returns-else-there
+returns-else-there g c =
     let s = c.args.store.now in
     let v = view_in s c.args.n in
     let k = c.args.k.now in
     let cs = candidates s.world v in
-    let d = c.in-Some.found in
+    let d = c.in-Some.there.found in
     let one = c.in-Some.ensures.found in
     record {
-      none = key_missed (has_key k) k d cs (λ item h. h) one (seen_hit k (map found_in cs) d false one c.if-found.false);
+      none = key_missed (has_key k) k d cs (λ item h. h) one (seen_hit k (map found_in cs) d false one c.if-there.false);
       some = tt;
-      value = sym (value_found k cs (Some d) one ∙ ap (λ (b : Bool). option_map value_of (cond b (Some d.item) None)) c.if-found.false);
+      value = sym (value_found k cs (Some d) one ∙ ap (λ (b : Bool). option_map value_of (cond b (Some d.item) None)) c.if-there.false);
       step = c.in-Some.ensures.step;
     }
 

@@ -9,21 +9,21 @@ use Rattle.read_chain.proofs.LookUpLemmas.{shown_of_one}
 use Rattle.read_chain.proofs.WalkLemmas.{shown_found}
 use Rattle.read_chain.proofs.look_ups.shown_at_key.Goals as goal
 
-pub returns-then-found-clause-item : goal.returns-then-found-clause-item
-returns-then-found-clause-item g c =
+pub returns-then-there-clause-item : goal.returns-then-there-clause-item
+returns-then-there-clause-item g c =
     let s = c.args.store.now in
     let cs = candidates s.world (view_in s c.args.n) in
     ap (filter (has_key c.args.k.now)) (shown_found cs)
-    ∙ shown_of_one (has_key c.args.k.now) (map found_in cs) (Some c.in-Some.found) c.in-Some.ensures.found
-    ∙ ap (λ (b : Bool). option_to_list (cond b (Some c.in-Some.found.item) None)) c.if-found.true
+    ∙ shown_of_one (has_key c.args.k.now) (map found_in cs) (Some c.in-Some.there.found) c.in-Some.ensures.found
+    ∙ ap (λ (b : Bool). option_to_list (cond b (Some c.in-Some.there.found.item) None)) c.if-there.true
 
-pub returns-else-found-clause-item : goal.returns-else-found-clause-item
-returns-else-found-clause-item g c =
+pub returns-else-there-clause-item : goal.returns-else-there-clause-item
+returns-else-there-clause-item g c =
     let s = c.args.store.now in
     let cs = candidates s.world (view_in s c.args.n) in
     ap (filter (has_key c.args.k.now)) (shown_found cs)
-    ∙ shown_of_one (has_key c.args.k.now) (map found_in cs) (Some c.in-Some.found) c.in-Some.ensures.found
-    ∙ ap (λ (b : Bool). option_to_list (cond b (Some c.in-Some.found.item) None)) c.if-found.false
+    ∙ shown_of_one (has_key c.args.k.now) (map found_in cs) (Some c.in-Some.there.found) c.in-Some.ensures.found
+    ∙ ap (λ (b : Bool). option_to_list (cond b (Some c.in-Some.there.found.item) None)) c.if-there.false
 
 pub returns-in-None-clause-item : goal.returns-in-None-clause-item
 returns-in-None-clause-item g c =

@@ -1,20 +1,22 @@
-use Rattle.std.proofs.Common.{◌≡◌, ℕ, ◌<◌, true, sym, ◌∙◌, ap, arith, length, Some}
+use Rattle.std.proofs.Common.{◌≡◌, ℕ, ◌<◌, true, sym, ◌∙◌, ap, arith, length, subst, Some}
 use Rattle.std.specs.Prelude.{option_map}
 use Rattle.std.proofs.lemmas.Option.{slice_get_past}
 use Rattle.base_store.specs.Stored.{view_in}
 use Rattle.read_chain.specs.Reads.{shown_in}
 use Rattle.read_chain.specs.Walks.{item_there}
-use Rattle.view_steps.specs.declared.places.Place.TheVariants.{Index}
+use Rattle.base_store.specs.Courses.{spots_in}
+use Rattle.view_laws.specs.declared.places.RowSpot.TheVariants.{Index}
+use Rattle.view_laws.specs.Following.{IsFrom}
+use Rattle.view_laws.specs.declared.places.Place.{Place}
+use Rattle.view_laws.specs.ViewPlaces.{place_of, places, show}
 use Rattle.view_steps.specs.Indexes as spec
-use Rattle.view_steps.specs.Places.{show}
 use Rattle.machine.specs.Bases.{World, base_at}
 use Rattle.machine.specs.Leaves.{leaf_at}
 use Rattle.machine.specs.Views.{View, base_under}
 use Rattle.view_steps.specs.KnownViews.{is_known_view, number_under}
-use Rattle.read_chain.proofs.ListViewLemmas.{item_at_place}
+use Rattle.read_chain.proofs.ListViewLemmas.{index_stands, item_at_place}
 use Rattle.read_chain.proofs.reads.item_at.Goals as goal
-use Rattle.read_chain.proofs.UnderLemmas.{few_items, keys_under, size_under}
-use Rattle.view_steps.proofs.ListViews.{list_indexed}
+use Rattle.read_chain.proofs.UnderLemmas.{few_items, size_under}
 
 -- the index of an item, by the size of the base under a view
 index_is : (world : World) (v : View) (b size i index : ℕ) → is_known_view v ≡ true → b ≡ number_under v → size ≡ length (base_at world b).rows → index ≡ spec.item_index v size i → index ≡ spec.item_index v (length (leaf_at world (base_under v)).rows) i
@@ -31,22 +33,23 @@ found_at-requires-clause-place g c =
     let v = view_in s c.args.n in
     let lt : c.args.i < length (leaf_at s.world (base_under v)).rows = omega (arith, size_under s.world v c.base_of.result c.base_of.ensures.known c.base_of.ensures.base, c.len-size.ensures.len) in
     let index = index_is s.world v c.base_of.result c.len-size.result c.args.i c.item_index.result c.base_of.ensures.known c.base_of.ensures.base c.len-size.ensures.len c.item_index.ensures.index in
-    (c.args.i, (list_indexed s.world v c.base_of.ensures.known c.base_of.ensures.made c.requires.list).index c.args.i lt ∙ ap (λ (k : ℕ). Some (Index k)) (sym index))
+    subst (λ (p : Place). IsFrom (places s.world (spots_in s.world) v) (Some p)) (sym (c.at_spot-at.ensures ∙ ap (λ (k : ℕ). place_of (Index k)) index))
+    (c.args.i, index_stands s.world v c.args.i c.base_of.ensures.known c.is_lawful.ensures.by_row c.is_lawful.ensures.tell c.base_of.ensures.made c.requires.list lt)
 
 pub returns-in-Some : goal.returns-in-Some
 returns-in-Some g c =
     let s = c.args.store.now in
     let v = view_in s c.args.n in
-    let keys = keys_under s.world v c.base_of.result c.base_of.ensures.known c.base_of.ensures.base c.base_of.ensures.keys in
     let lt : c.args.i < length (leaf_at s.world (base_under v)).rows = omega (arith, size_under s.world v c.base_of.result c.base_of.ensures.known c.base_of.ensures.base, c.len-size.ensures.len) in
     let index = index_is s.world v c.base_of.result c.len-size.result c.args.i c.item_index.result c.base_of.ensures.known c.base_of.ensures.base c.len-size.ensures.len c.item_index.ensures.index in
-    ap (option_map item_there) (c.in-Some.ensures.found ∙ ap (λ (k : ℕ). show s.world v (Index k)) index) ∙ sym (item_at_place s.world v c.args.i c.base_of.ensures.known c.base_of.ensures.made keys c.requires.list lt)
+    ap (option_map item_there) (c.in-Some.ensures.found ∙ ap (show s.world (spots_in s.world) v) (c.at_spot-at.ensures ∙ ap (λ (k : ℕ). place_of (Index k)) index))
+    ∙ sym (item_at_place s.world v c.args.i c.base_of.ensures.known c.is_lawful.ensures.by_row c.is_lawful.ensures.tell c.base_of.ensures.made c.requires.list lt)
 
 pub returns-in-None : goal.returns-in-None
 returns-in-None g c =
     let s = c.args.store.now in
     let v = view_in s c.args.n in
-    let keys = keys_under s.world v c.base_of.result c.base_of.ensures.known c.base_of.ensures.base c.base_of.ensures.keys in
     let lt : c.args.i < length (leaf_at s.world (base_under v)).rows = omega (arith, size_under s.world v c.base_of.result c.base_of.ensures.known c.base_of.ensures.base, c.len-size.ensures.len) in
     let index = index_is s.world v c.base_of.result c.len-size.result c.args.i c.item_index.result c.base_of.ensures.known c.base_of.ensures.base c.len-size.ensures.len c.item_index.ensures.index in
-    ap (option_map item_there) (c.in-None.ensures.found ∙ ap (λ (k : ℕ). show s.world v (Index k)) index) ∙ sym (item_at_place s.world v c.args.i c.base_of.ensures.known c.base_of.ensures.made keys c.requires.list lt)
+    ap (option_map item_there) (c.in-None.ensures.found ∙ ap (show s.world (spots_in s.world) v) (c.at_spot-at.ensures ∙ ap (λ (k : ℕ). place_of (Index k)) index))
+    ∙ sym (item_at_place s.world v c.args.i c.base_of.ensures.known c.is_lawful.ensures.by_row c.is_lawful.ensures.tell c.base_of.ensures.made c.requires.list lt)

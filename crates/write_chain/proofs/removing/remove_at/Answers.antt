@@ -5,12 +5,18 @@ use Rattle.vocabulary.specs.declared.answers.Answer.TheVariants.{Element}
 use Rattle.machine.specs.CallEdits.{hit_at}
 use Rattle.machine.specs.Views.{candidates}
 use Rattle.write_chain.specs.Calls.{Came}
-use Rattle.write_chain.proofs.RemoveLemmas.{gone_came, remove_at_given, row_gone}
+use Rattle.write_chain.proofs.RemoveLemmas.{gone_came, remove_at_given, row_gone, spot_there}
 use Rattle.write_chain.proofs.removing.remove_at.Goals as goal
 use Rattle.view_steps.proofs.ChangeLemmas.{room}
 
 pub remove_row-requires-clause-change : goal.remove_row-requires-clause-change
 remove_row-requires-clause-change g c = room _ _ c.requires.change
+
+pub remove_row-requires-clause-spot : goal.remove_row-requires-clause-spot
+remove_row-requires-clause-spot g c =
+    let s = c.args.store.now in
+    let v = view_in s c.args.n in
+    spot_there s.world v c.place_of_item-place.result c.base_of-b.result (hit_at c.in-Some.at (candidates s.world v)) c.base_of-b.ensures.base c.place_of_item-place.ensures
 
 pub returns-clause-came : goal.returns-clause-came
 returns-clause-came g c =

@@ -10,13 +10,19 @@ use Rattle.view_steps.specs.KnownViews.{number_under}
 use Rattle.write_chain.specs.Calls.{Came, removed}
 use Rattle.write_chain.proofs.HitLemmas.{one_shown}
 use Rattle.write_chain.proofs.KnownCalls.{stands}
-use Rattle.write_chain.proofs.RemoveLemmas.{gone_came, none_hit, row_gone}
+use Rattle.write_chain.proofs.RemoveLemmas.{gone_came, none_hit, row_gone, spot_there}
 use Rattle.write_chain.proofs.removing.remove_item.Goals as goal
 use Rattle.view_steps.proofs.HitLemmas.{none_shown}
 use Rattle.view_steps.proofs.ChangeLemmas.{room}
 
 pub remove_row-requires-clause-change : goal.remove_row-requires-clause-change
 remove_row-requires-clause-change g c = room _ _ c.requires.change
+
+pub remove_row-requires-clause-spot : goal.remove_row-requires-clause-spot
+remove_row-requires-clause-spot g c =
+    let s = c.args.store.now in
+    let v = view_in s c.args.n in
+    spot_there s.world v c.in-Some.place c.base_of-b.result (first_hit (same_item c.args.item.now) (candidates s.world v)) c.base_of-b.ensures.base c.in-Some.ensures.some
 
 pub returns-in-Some-clause-came : goal.returns-in-Some-clause-came
 returns-in-Some-clause-came g c =

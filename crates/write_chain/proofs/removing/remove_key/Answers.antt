@@ -9,12 +9,18 @@ use Rattle.machine.specs.Views.{candidates}
 use Rattle.view_steps.specs.KnownViews.{number_under}
 use Rattle.write_chain.specs.Calls.{Came, removed}
 use Rattle.write_chain.proofs.KnownCalls.{stands}
-use Rattle.write_chain.proofs.RemoveLemmas.{gone_came, none_hit, row_gone}
+use Rattle.write_chain.proofs.RemoveLemmas.{gone_came, none_hit, row_gone, spot_there}
 use Rattle.write_chain.proofs.removing.remove_key.Goals as goal
 use Rattle.view_steps.proofs.ChangeLemmas.{room}
 
 pub remove_row-requires-clause-change : goal.remove_row-requires-clause-change
 remove_row-requires-clause-change g c = room _ _ c.requires.change
+
+pub remove_row-requires-clause-spot : goal.remove_row-requires-clause-spot
+remove_row-requires-clause-spot g c =
+    let s = c.args.store.now in
+    let v = view_in s c.args.n in
+    spot_there s.world v c.in-Some.found.0 c.base_of-b.result (first_hit (has_key c.args.k.now) (candidates s.world v)) c.base_of-b.ensures.base c.in-Some.ensures.some
 
 pub returns-in-Some-clause-came : goal.returns-in-Some-clause-came
 returns-in-Some-clause-came g c =

@@ -1,8 +1,8 @@
 use Rattle.std.proofs.Common.{◌∷◌, [], sym}
 use Rattle.base_store.specs.contracts.store.Slot.{the_view}
+use Rattle.view_steps.proofs.EditedRows.{edited_adding}
 use Rattle.base_rows.proofs.KeyedRows.{known_rows}
 use Rattle.base_store.proofs.store.Slot.place.Goals as goal
-use Rattle.view_steps.proofs.EditedRows.{edited_adding}
 
 pub returns-clause-ok : goal.returns-clause-ok
 returns-clause-ok c d =

@@ -1,9 +1,9 @@
 use Rattle.std.proofs.Common.{sym}
 use Rattle.base_rows.specs.BaseRows.{rows_of}
 use Rattle.base_store.specs.contracts.store.Slot.{the_view}
+use Rattle.view_steps.proofs.EditedRows.{edited_adding, without_none}
 use Rattle.base_rows.proofs.KeyedRows.{known_rows}
 use Rattle.base_store.proofs.store.Slot.place_all.Goals as goal
-use Rattle.view_steps.proofs.EditedRows.{without_none, edited_adding}
 
 pub returns-in-Err-clause-cause : goal.returns-in-Err-clause-cause
 returns-in-Err-clause-cause c d = rw (← d.self.view_is, without_none 0 (rows_of d.self.inside.rows)) d.in-Err.ensures.cause

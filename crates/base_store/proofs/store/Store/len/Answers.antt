@@ -1,8 +1,8 @@
 use Rattle.std.proofs.Common.{◌<◌, length, ap, sym, ◌∙◌, arith}
 use Rattle.machine.specs.Bases.{Base}
 use Rattle.base_store.proofs.store.Store.len.Goals as goal
-use Rattle.view_steps.proofs.CountLemmas.{rows_in-at}
 use Rattle.view_steps.proofs.WorldLemmas.{read_at}
+use Rattle.view_steps.proofs.CountLemmas.{rows_in-at}
 
 pub returns-clause-few : goal.returns-clause-few
 returns-clause-few c =

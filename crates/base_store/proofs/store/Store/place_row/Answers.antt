@@ -3,7 +3,7 @@ use Rattle.machine.specs.Edits.{adding}
 use Rattle.machine.specs.Bases.{base_at}
 use Rattle.base_store.specs.Stored.{Stored}
 use Rattle.base_store.proofs.BuiltLemmas.{sound_edited}
-use Rattle.base_rows.proofs.SpotLemmas.{row_fits, row_grows, row_too_many}
+use Rattle.base_store.proofs.RoomLemmas.{row_fits, row_grows, row_too_many}
 use Rattle.base_store.proofs.store.Store.place_row.Goals as goal
 
 pub returns-then-is_full-clause-cause : goal.returns-then-is_full-clause-cause

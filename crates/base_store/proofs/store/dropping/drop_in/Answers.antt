@@ -1,5 +1,5 @@
 use Rattle.std.proofs.Common.{◌≡◌, true, ap, set, subst}
-use Rattle.view_steps.specs.Places.{HasKeys}
+use Rattle.base_rows.specs.BaseSpots.{HasKeys}
 use Rattle.machine.specs.Bases.{Base}
 use Rattle.vocabulary.specs.Known.{is_known_kind}
 use Rattle.base_store.specs.Nodes.{view_at}

@@ -1,81 +1,70 @@
-use Rattle.std.proofs.Common.{◌≡◌, sym, arith, Some, None}
+use Rattle.std.proofs.Common.{◌≡◌, sym, ap, ◌∙◌, arith, Some, None}
 use Rattle.std.specs.Prelude.{slice_get}
 use Rattle.std.proofs.lemmas.Option.{slice_get_within}
+use Rattle.base_store.specs.Courses.{spots_in}
 use Rattle.base_store.specs.Stored.{view_in}
 use Rattle.read_chain.specs.Walks.{found_along}
-use Rattle.view_steps.specs.declared.lanes.Lane.TheVariants.{All}
-use Rattle.view_steps.specs.Lanes.{line}
-use Rattle.view_steps.specs.Places.{show}
-use Rattle.view_steps.proofs.FoundLemmas.{place_in_view, line_found, passes_found, never_nothing, all_passed}
-use Rattle.view_steps.proofs.CountLemmas.{few_places}
-use Rattle.read_chain.proofs.WalkLemmas.{passes_one, place_last, place_next}
-use Rattle.read_chain.proofs.UnderLemmas.{goes_straight, keys_under, size_under}
+use Rattle.view_laws.specs.ViewPlaces.{place_of, show}
+use Rattle.read_chain.proofs.Along.{all_passed, passes_found}
+use Rattle.read_chain.proofs.CourseLemmas.{course_found, few_along, row_found, spots_along}
+use Rattle.read_chain.proofs.UnderLemmas.{row_under, size_under, within_store}
+use Rattle.read_chain.proofs.WalkLemmas.{passes_one, spot_last, spot_next}
 use Rattle.read_chain.proofs.walks.Walk.pass.Goals as goal
 
-pub next_place-requires-clause-straight : goal.next_place-requires-clause-straight
-next_place-requires-clause-straight g c =
-    let s = c.args.store.now in
-    goes_straight s.world (view_in s c.args.self.now.node) All c.base_of-base.result c.base_of-base.ensures.known c.base_of-base.ensures.base c.base_of-base.ensures.kind c.base_of-base.ensures.made tt
-
-pub next_place-requires-clause-from : goal.next_place-requires-clause-from
-next_place-requires-clause-from g c =
+pub next_row-requires-clause-base : goal.next_row-requires-clause-base
+next_row-requires-clause-base g c =
     let s = c.args.store.now in
     let w = c.args.self.now in
-    place_last (line s.world (view_in s w.node) All w.back) w.passed w.last c.requires.at
+    within_store s.world (view_in s w.node) c.base_of.result w.course.base c.base_of.ensures.base c.requires.course.base c.base_of.ensures.within
 
-pub found_at-requires-clause-place : goal.found_at-requires-clause-place
-found_at-requires-clause-place g c =
+pub next_row-requires-clause-serves : goal.next_row-requires-clause-serves
+next_row-requires-clause-serves g c = c.requires.course.served
+
+pub next_row-requires-clause-from : goal.next_row-requires-clause-from
+next_row-requires-clause-from g c =
     let s = c.args.store.now in
     let w = c.args.self.now in
-    let v = view_in s w.node in
-    place_in_view s.world v w.back c.in-Some.place w.passed (place_next (line s.world v All w.back) w.passed w.last (Some c.in-Some.place) c.requires.at c.in-Some.ensures.next)
+    spot_last (spots_along s.world w.course) w.passed w.last c.requires.at
 
 pub overflow_add-self : goal.overflow_add-self
 overflow_add-self g c =
     let s = c.args.store.now in
     let w = c.args.self.now in
     let v = view_in s w.node in
-    let ps = line s.world v All w.back in
-    let keys = keys_under s.world v c.base_of-base.result c.base_of-base.ensures.known c.base_of-base.ensures.base c.base_of-base.ensures.keys in
-    let place : slice_get ps w.passed ≡ Some c.in-Some.place = place_next ps w.passed w.last (Some c.in-Some.place) c.requires.at c.in-Some.ensures.next in
-    omega (arith, slice_get_within ps w.passed c.in-Some.place place, few_places s.world v w.back c.base_of-base.ensures.known keys, size_under s.world v c.base_of-base.result c.base_of-base.ensures.known c.base_of-base.ensures.base, c.len-rows.ensures.len, c.len-rows.ensures.few)
+    let ss = spots_along s.world w.course in
+    let known = c.base_of.ensures.known in
+    let spot : slice_get ss w.passed ≡ Some c.in-Some.next.spot = spot_next ss w.passed w.last (Some c.in-Some.next.spot) c.requires.at c.in-Some.ensures.next in
+    omega (arith, slice_get_within ss w.passed c.in-Some.next.spot spot, few_along s.world v w.back w.course known c.is_lawful.ensures.by_row c.is_lawful.ensures.formed c.is_lawful.ensures.tell c.requires.course, size_under s.world v c.base_of.result known c.base_of.ensures.base, c.len-rows.ensures.len, c.len-rows.ensures.few)
 
-pub returns-in-Some-found_at-clause-walk : goal.returns-in-Some-found_at-clause-walk
-returns-in-Some-found_at-clause-walk g c =
+pub returns-in-Some-clause-walk : goal.returns-in-Some-clause-walk
+returns-in-Some-clause-walk g c =
     let s = c.args.store.now in
     let w = c.args.self.now in
-    let ps = line s.world (view_in s w.node) All w.back in
+    let ss = spots_along s.world w.course in
     record {
       node = c.requires.node;
-      at = passes_one ps w.passed c.in-Some.place (place_next ps w.passed w.last (Some c.in-Some.place) c.requires.at c.in-Some.ensures.next);
+      course = c.requires.course;
+      at = passes_one ss w.passed c.in-Some.next.spot (spot_next ss w.passed w.last (Some c.in-Some.next.spot) c.requires.at c.in-Some.ensures.next);
     }
 
-pub returns-in-Some-found_at-clause-found : goal.returns-in-Some-found_at-clause-found
-returns-in-Some-found_at-clause-found g c =
+pub returns-in-Some-clause-found : goal.returns-in-Some-clause-found
+returns-in-Some-clause-found g c =
     let s = c.args.store.now in
     let w = c.args.self.now in
     let v = view_in s w.node in
-    let ps = line s.world v All w.back in
-    let keys = keys_under s.world v c.base_of-base.result c.base_of-base.ensures.known c.base_of-base.ensures.base c.base_of-base.ensures.keys in
-    let place : slice_get ps w.passed ≡ Some c.in-Some.place = place_next ps w.passed w.last (Some c.in-Some.place) c.requires.at c.in-Some.ensures.next in
-    passes_found (show s.world v) ps (found_along s w.node w.back) (line_found s.world v w.back c.base_of-base.ensures.known keys) w.passed c.in-Some.place c.in-Some-found_at.found place (sym c.in-Some-found_at.ensures.found)
-
-pub returns-in-None-found_at-clause-found : goal.returns-in-None-found_at-clause-found
-returns-in-None-found_at-clause-found g c =
-    let s = c.args.store.now in
-    let w = c.args.self.now in
-    let v = view_in s w.node in
-    let ps = line s.world v All w.back in
-    let keys = keys_under s.world v c.base_of-base.result c.base_of-base.ensures.known c.base_of-base.ensures.base c.base_of-base.ensures.keys in
-    let place : slice_get ps w.passed ≡ Some c.in-Some.place = place_next ps w.passed w.last (Some c.in-Some.place) c.requires.at c.in-Some.ensures.next in
-    absurd (never_nothing (show s.world v) ps (found_along s w.node w.back) (line_found s.world v w.back c.base_of-base.ensures.known keys) w.passed c.in-Some.place place (sym c.in-None-found_at.ensures.found))
+    let ss = spots_along s.world w.course in
+    let known = c.base_of.ensures.known in
+    let next = c.in-Some.next in
+    let spot : slice_get ss w.passed ≡ Some next.spot = spot_next ss w.passed w.last (Some next.spot) c.requires.at c.in-Some.ensures.next in
+    passes_found (λ t. show s.world (spots_in s.world) v (place_of t)) ss (found_along s w.node w.back) (course_found s.world v w.back w.course known c.is_lawful.ensures.formed c.is_lawful.ensures.tell c.requires.course) w.passed next.spot c.found_of_row.result spot
+    (row_found s.world v (place_of next.spot) next.row known c.is_lawful.ensures.by_row (row_under s.world v w.course.base next.spot next.row c.requires.course.base c.in-Some.ensures.row) ∙ ap Some (sym c.found_of_row.ensures))
 
 pub returns-in-None-clause-found : goal.returns-in-None-clause-found
 returns-in-None-clause-found g c =
     let s = c.args.store.now in
     let w = c.args.self.now in
     let v = view_in s w.node in
-    let ps = line s.world v All w.back in
-    let keys = keys_under s.world v c.base_of-base.result c.base_of-base.ensures.known c.base_of-base.ensures.base c.base_of-base.ensures.keys in
-    let passed = all_passed (show s.world v) ps (found_along s w.node w.back) (line_found s.world v w.back c.base_of-base.ensures.known keys) w.passed (place_next ps w.passed w.last None c.requires.at c.in-None.ensures.next) in
+    let ss = spots_along s.world w.course in
+    let passed = all_passed (λ t. show s.world (spots_in s.world) v (place_of t)) ss (found_along s w.node w.back)
+    (course_found s.world v w.back w.course c.base_of.ensures.known c.is_lawful.ensures.formed c.is_lawful.ensures.tell c.requires.course) w.passed (spot_next ss w.passed w.last None c.requires.at c.in-None.ensures.next) in
     (passed, passed)

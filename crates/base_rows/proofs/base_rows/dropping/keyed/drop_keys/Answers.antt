@@ -6,7 +6,7 @@ use Rattle.elem.specs.declared.elements.Elem.{Elem}
 use Rattle.elem.specs.Elements.{same}
 use Rattle.base_rows.proofs.DropLemmas.{behind_row, first_row, kept_items, next_key, no_row}
 use Rattle.base_rows.proofs.KeyDrops.{gone_more, all_gone, any_more, cut_here, here_there, keys_cover}
-use Rattle.view_steps.proofs.ListLemmas.{filter-all}
+use Rattle.view_laws.proofs.ListLemmas.{filter-all}
 use Rattle.base_rows.proofs.base_rows.dropping.keyed.drop_keys.Goals as goal
 
 abbrev Members : Type 0
@@ -44,7 +44,7 @@ returns-in_default-clause-rows g c =
     kept_items g.V.RowValue.row_of (g.T.RowTest.passes c.args.test.now) (g.K.Keyed.rows c.loop-key.rows) (g.K.Keyed.rows c.args.rows.now)
     (all_gone (λ (row : Elem × g.row.V.Denot). g.T.RowTest.passes c.args.test.now (g.V.RowValue.row_of row.0 row.1)) (λ (row : Elem × g.row.V.Denot). list_any (λ k. same k row.0) (keys_of (take i ks)))
     (g.K.Keyed.rows c.args.rows.now) (g.K.Keyed.rows c.loop-key.rows)
-    (keys_cover g.V.RowValue.row_of g.met.V.RowValue.key_kept (g.T.RowTest.passes c.args.test.now) ks (take i ks) all c.requires) c.loop-key.invariant.rows)
+    (keys_cover g.V.RowValue.row_of (g.T.RowTest.passes c.args.test.now) ks (take i ks) all c.requires) c.loop-key.invariant.rows)
 
 pub returns-clause-rows : goal.returns-clause-rows
 returns-clause-rows g c =
@@ -54,4 +54,4 @@ returns-clause-rows g c =
     kept_items g.V.RowValue.row_of (g.T.RowTest.passes c.args.test.now) (g.K.Keyed.rows c.loop-key.rows) (g.K.Keyed.rows c.args.rows.now)
     (all_gone (λ (row : Elem × g.row.V.Denot). g.T.RowTest.passes c.args.test.now (g.V.RowValue.row_of row.0 row.1)) (λ (row : Elem × g.row.V.Denot). list_any (λ k. same k row.0) (keys_of (take i ks)))
     (g.K.Keyed.rows c.args.rows.now) (g.K.Keyed.rows c.loop-key.rows)
-    (keys_cover g.V.RowValue.row_of g.met.V.RowValue.key_kept (g.T.RowTest.passes c.args.test.now) ks (take i ks) all c.requires) c.loop-key.invariant.rows)
+    (keys_cover g.V.RowValue.row_of (g.T.RowTest.passes c.args.test.now) ks (take i ks) all c.requires) c.loop-key.invariant.rows)

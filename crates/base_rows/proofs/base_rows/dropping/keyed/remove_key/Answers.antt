@@ -1,10 +1,10 @@
 use Rattle.base_rows.proofs.DropLemmas.{gone_key}
+use Rattle.base_rows.proofs.SpotsTold.{at_key}
 use Rattle.base_rows.specs.Journals.{items_by}
 use Rattle.base_rows.proofs.base_rows.dropping.keyed.remove_key.Goals as goal
-use Rattle.view_steps.proofs.PlaceLemmas.{at_key}
 
 pub returns-in-Key-clause-rows : goal.returns-in-Key-clause-rows
-returns-in-Key-clause-rows g c = λ numbers at. gone_key g.V.RowValue.row_of g.met.V.RowValue.key_kept (g.K.Keyed.rows c.args.rows.now) (g.K.Keyed.rows c.remove.new.self) c.in-Key.k c.requires.0 c.args.at.now numbers c.len-len.ensures.distinct c.requires.1 c.in-Key.is c.remove.ensures.rows at
+returns-in-Key-clause-rows g c = λ numbers at. gone_key g.V.RowValue.row_of g.met.V.RowValue.key_kept (g.K.Keyed.rows c.args.rows.now) (g.K.Keyed.rows c.remove.new.self) c.in-Key.k c.args.at.now numbers c.len-len.ensures.distinct c.in-Key.is c.remove.ensures.rows at
 
 pub returns-in_default : goal.returns-in_default
 returns-in_default g c =

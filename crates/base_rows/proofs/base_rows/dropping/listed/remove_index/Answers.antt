@@ -4,7 +4,7 @@ use Rattle.base_rows.specs.BaseRows.{items}
 use Rattle.base_rows.proofs.DropLemmas.{same_index, index_gone}
 use Rattle.vocabulary.specs.declared.items.Item.TheVariants.{One}
 use Rattle.base_rows.proofs.base_rows.dropping.listed.remove_index.Goals as goal
-use Rattle.view_steps.proofs.PlaceLemmas.{at_index}
+use Rattle.base_rows.proofs.SpotsTold.{at_index}
 
 pub remove_at-requires : goal.remove_at-requires
 remove_at-requires g c =

@@ -1,6 +1,5 @@
-use Rattle.std.proofs.Common.{sym, ap, ◌∙◌}
+use Rattle.std.proofs.Common.{sym, ◌∙◌}
 use Rattle.elem.specs.declared.elements.Elem.{Elem}
-use Rattle.elem.specs.Cuts.{lies_between}
 use Rattle.base_rows.proofs.DropLemmas.{kept_items}
 use Rattle.base_rows.proofs.WindowDrops.{none_gone, rest_after, first_gone, fewer_in_rest, all_gone_in}
 use Rattle.base_rows.proofs.base_rows.dropping.windowed.drop_in_window.Goals as goal
@@ -11,7 +10,7 @@ loop-k-init g c =
     record {
       window = c.requires.window;
       rows = none_gone g.met.C.Compare.strict (λ (row : Elem × g.row.V.Denot). g.T.RowTest.passes c.args.test.now (g.V.RowValue.row_of row.0 row.1)) w.lo w.hi c.args.rows.now
-          (λ row passes. ap (lies_between g.C.Compare.before w.lo w.hi) (sym (g.met.V.RowValue.key_kept row.0 row.1)) ∙ c.requires.reach (g.V.RowValue.row_of row.0 row.1) passes);
+          (λ row passes. c.requires.reach row.0 row.1 passes);
     }
 
 pub loop-k-preserved : goal.loop-k-preserved

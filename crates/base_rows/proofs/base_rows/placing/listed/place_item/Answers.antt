@@ -8,7 +8,7 @@ use Rattle.vocabulary.specs.declared.items.Item.TheVariants.{One}
 use Rattle.vocabulary.specs.declared.kinds.Kind.TheVariants.{ArrayList}
 use Rattle.machine.specs.Placing.{placed_at}
 use Rattle.base_rows.proofs.base_rows.placing.listed.place_item.Goals as goal
-use Rattle.view_steps.proofs.ListLemmas.{map-insert}
+use Rattle.base_rows.proofs.ListLemmas.{map-insert}
 
 pub returns-in-Own-clause-ok : goal.returns-in-Own-clause-ok
 returns-in-Own-clause-ok g c = on_ok c.insert_at.result (λ e. ap items e ∙ own_item c.args.rows.now c.len-size.result c.args.x c.len-size.ensures ∙ sym (ap (λ (spot : Spot). placed_at ArrayList spot (items c.args.rows.now) (One c.args.x)) c.in-Own.is)) c.insert_at.ensures.ok

@@ -1,0 +1,70 @@
+-- The rows that a view shows stand on its course, and have the keys of its items.
+use Rattle.std.proofs.Common.{◌≡◌, Bool, true, false, ◌&&◌, List, refl, ap, sym, ◌∙◌, subst}
+use Rattle.std.specs.Prelude.{is_some}
+use Rattle.elem.specs.declared.elements.Elem.{Elem}
+use Rattle.elem.specs.Elements.{same}
+use Rattle.elem.specs.ElementLaws.{same-Decides}
+use Rattle.elem.specs.Keyed.{value_at}
+use Rattle.vocabulary.specs.declared.items.Item.{Item}
+use Rattle.vocabulary.specs.declared.step_table.Family.{Family}
+use Rattle.vocabulary.specs.declared.step_table.Family.TheVariants.{Same, Changed, Turned, Keyed, Hidden, Cut, Grouped, Run, Pieces}
+use Rattle.vocabulary.specs.declared.steps.Step.{Step}
+use Rattle.vocabulary.specs.Items.{key_of}
+use Rattle.vocabulary.specs.Kinds.{shape_of_kind}
+use Rattle.machine.specs.Bases.{Base, World, base_at}
+use Rattle.machine.specs.Leaves.{leaf_at}
+use Rattle.machine.specs.Views.{View, base_under}
+use Rattle.view_laws.specs.ItemForms.{IsFormed, has_form}
+use Rattle.view_laws.specs.Lanes.{all, takes}
+use Rattle.view_laws.specs.LookUps.{of_element}
+use Rattle.view_laws.specs.RowForm.{RowForm, form_of, form_over, is_by_row, shows}
+use Rattle.view_laws.specs.Serving.{Serves}
+use Rattle.view_steps.specs.KnownLanes.{KeyDown}
+use Rattle.view_steps.specs.KnownViews.{is_known_view, number_under}
+use Rattle.view_steps.specs.RowHits.{is_row_hit}
+use Rattle.base_store.specs.declared.store.courses.Course.{Course}
+use Rattle.base_store.specs.Courses.{IsCourse}
+use Rattle.view_steps.proofs.ListLemmas.{both}
+use Rattle.view_steps.proofs.KnownLemmas.{known_base}
+use Rattle.view_laws.proofs.TakeLemmas.{takes_down}
+
+-- a row that is hit is taken, and its item passes
+hit_taken : (p : Item → Bool) (f : RowForm) (row : Item) → is_row_hit p f row ≡ true → (f.takes row ≡ true) × (p (f.item row) ≡ true)
+hit_taken p f row h =
+    let parts = both (shows f row) (p (f.item row)) h in
+    ((both (f.takes row) (f.sees row) parts.0).0, parts.1)
+
+-- the base serves the lane of a course
+pub course_served : (world : World) (v : View) (course : Course) → IsCourse world v all false course → Serves (base_at world (number_under v)).kind course.lane
+course_served world v course is = subst (λ b. Serves (base_at world b).kind course.lane) is.base is.served
+
+module _ (world : World) (v : View) (known : is_known_view v ≡ true) (formed : IsFormed world v) (by_row : is_by_row world v ≡ true) (p : Item → Bool) (row : Item) (fits : has_form (shape_of_kind (base_at world (number_under v)).kind) row ≡ true) (hit : is_row_hit p (form_of v) row ≡ true) where
+  fits_leaf : has_form (shape_of_kind (leaf_at world (base_under v)).kind) row ≡ true
+  fits_leaf = subst (λ (it : Base). has_form (shape_of_kind it.kind) row ≡ true) (sym (known_base world v known)) fits
+
+  -- a row that is hit stands on the course of the whole walk
+  pub hit_on_course : (course : Course) → IsCourse world v all false course → takes course.lane row ≡ true
+  hit_on_course course is = takes_down world v all course.lane false course.back row formed.made formed.apart by_row fits_leaf is.down (hit_taken p (form_of v) row hit).0 refl
+
+  -- and has one of some keys where each item that passes has
+  pub hit_of_keys : {U : Type 0} (keys : List (Elem × U)) → ((k : Elem) → KeyDown world v k false) → ((item : Item) → p item ≡ true → is_some (value_at keys (key_of item)) ≡ true) → is_some (value_at keys (key_of row)) ≡ true
+  hit_of_keys keys downs covers =
+      let parts = hit_taken p (form_of v) row hit in
+      let k : Elem = key_of ((form_of v).item row) in
+      let down : KeyDown world v k false = downs k in
+      let asked : takes (of_element k) ((form_of v).item row) ≡ true = ap (λ b. b && true) ((same-Decides k k).1 refl) in
+      let taken : takes down.down.below row ≡ true = takes_down world v (of_element k) down.down.below false down.down.from_back row formed.made formed.apart by_row fits_leaf down.down.down parts.0 asked in
+      let key : k ≡ key_of row = (same-Decides k (key_of row)).0 (down.alone row taken) in
+      ap (λ (x : Elem). is_some (value_at keys x)) (sym key) ∙ covers ((form_of v).item row) parts.1
+
+-- a step that leaves nothing out and hides nothing shows each row that the view below it shows
+pub shows_over : (family : Family) (step : Step) (f : RowForm) → (family ≡ Hidden → ⊥) → (family ≡ Cut → ⊥) → ((row : Item) → shows f row ≡ true) → (row : Item) → shows (form_over family step f) row ≡ true
+shows_over Same step f h c each row = each row
+shows_over Changed step f h c each row = each row
+shows_over Turned step f h c each row = each row
+shows_over Keyed step f h c each row = each row
+shows_over Grouped step f h c each row = each row
+shows_over Run step f h c each row = each row
+shows_over Pieces step f h c each row = each row
+shows_over Hidden step f h c each row = absurd (h refl)
+shows_over Cut step f h c each row = absurd (c refl)

@@ -1,4 +1,0 @@
-use Rattle.base_store.proofs.store.shown.+found_in.Given as goal
-
-abbrev pub decreases-found_in : goal.decreases-found_in
-decreases-found_in l = l.n

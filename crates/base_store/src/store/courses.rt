@@ -1,0 +1,83 @@
+//! The courses of walks: the lanes of bases to which the lanes of views come down.
+ghost use Rattle.std.specs.Prelude.{◌≡◌, ◌<◌, None, Some, length, true, false};
+ghost use Rattle.base_store.specs.Courses.{IsCourse};
+ghost use Rattle.base_store.specs.Stored.{view_in};
+ghost use Rattle.machine.specs.Views.{shape_at};
+ghost use Rattle.view_laws.specs.Lanes as lanes;
+ghost use Rattle.view_laws.specs.LanesDown.{lane_down};
+ghost use Rattle.view_laws.specs.LookUps.{of_element};
+ghost use Rattle.view_laws.specs.declared.lanes.Pick.TheVariants.{Each};
+ghost use Rattle.vocabulary.specs.Shapes.{is_keyed};
+
+use super::Store;
+use crate::{AnyRef, BaseId, Node};
+use elem::Elem;
+use view_laws::{Lane, PartAsk, Pick, all, flipped, order_on, pass_down};
+
+/// A walk of a view, as one of the base under it: along a lane there, from the front or from the back.
+#[derive(Clone, Copy)]
+pub struct Course {
+    pub base: BaseId,
+    pub lane: Lane,
+    pub back: bool,
+}
+
+impl Store {
+    /// The course of the whole walk of a view.
+    pub fn course(&self, n: AnyRef, back: bool) -> Course
+        requires { n < length self.now.nodes }
+        ensures { IsCourse self.now.world (view_in self.now n) lanes.all back result }
+    {
+        let mut lane = all();
+        let mut from_back = back;
+        let _found = self.comes_down(n, &mut lane, &mut from_back);
+        Course {
+            base: self.base_of(n),
+            lane,
+            back: from_back,
+        }
+    }
+
+    /// The course that looks up a key in a view in which no two items have the same.
+    pub fn course_of_key(&self, n: AnyRef, k: &Elem) -> Course
+        requires node { n < length self.now.nodes }
+        requires keyed { is_keyed (shape_at self.now.world (view_in self.now n)) ≡ true }
+        ensures { IsCourse self.now.world (view_in self.now n) (of_element k.now) false result }
+    {
+        let mut lane = Lane {
+            first: PartAsk::Is(*k),
+            second: PartAsk::Any,
+            pick: Pick::Each,
+        };
+        let mut from_back = false;
+        let _found = self.comes_down(n, &mut lane, &mut from_back);
+        Course {
+            base: self.base_of(n),
+            lane,
+            back: from_back,
+        }
+    }
+
+    /// Makes of a lane of a view, and of the direction of a walk along it, those of its base, and tells whether each step
+    /// passes the lane down.
+    fn comes_down(&self, n: AnyRef, lane: &mut Lane, back: &mut bool) -> bool
+        requires node { n < length self.now.nodes }
+        requires each { lane.old.pick ≡ Each }
+        ensures some { result ≡ true → lane_down self.now.world (view_in self.now n) lane.old back.old ≡ Some (lane.new, back.new) }
+        ensures none { result ≡ false → lane_down self.now.world (view_in self.now n) lane.old back.old ≡ None }
+    {
+        match self.node(n) {
+            Node::Base(_) => true,
+            Node::Step { step, parent } => {
+                let kind = self.kind(self.base_of(n));
+                let below = self.facts(parent);
+                let order = order_on(kind, below.for_map, below.shape, &step);
+                if !pass_down(below.shape, order, &step, lane) {
+                    return false;
+                }
+                *back = flipped(&step, *back);
+                self.comes_down(parent, lane, back)
+            }
+        }
+    }
+}

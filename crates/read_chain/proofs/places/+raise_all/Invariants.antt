@@ -1,0 +1,4 @@
+use Rattle.read_chain.proofs.places.+raise_all.Given as goal
+
+abbrev pub decreases-raise_all : goal.decreases-raise_all
+decreases-raise_all l = l.n
