@@ -4,6 +4,7 @@ pub mod ReplyLemmas
 pub mod CallLemmas
 pub mod PrintLemmas
 pub mod EvalLemmas
+pub mod OneWord
 pub mod FollowLemmas
 pub mod NameLemmas
 pub mod TypingLemmas

@@ -17,7 +17,7 @@ use crate::faults::ExecFault;
 use crate::following::{End, follow};
 use crate::printing::{known_shape, print};
 use crate::replies::{Reply, refuse, say};
-use crate::typing::typing_fault;
+use crate::typing::{Typed, type_word, typing_fault};
 use base_store::{AnyRef, Store};
 use elem::{Sink, Steps, Word};
 use indexmap::IndexMap;
@@ -25,8 +25,54 @@ use script_text::Part;
 use std::sync::ledger::Ledger;
 use vocabulary::{Fault, Purpose, Refusal};
 
-/// Evaluates the words behind a name: they lead to a view that is printed, or to a call on one.
+/// Evaluates the words behind a name: they lead to a view that is printed, or to a call on one. A call that
+/// stands alone is typed once.
 pub fn evaluate<S: Sink, L: Ledger>(
+    store: &mut Store,
+    names: &IndexMap<Word, AnyRef>,
+    head: AnyRef,
+    line: &[u8],
+    parts: &[Part],
+    reply: &mut Reply,
+    out: &mut S,
+    steps: &mut Steps<L>,
+) -> Result<(), ExecFault>
+    requires head { head < length store.old.nodes }
+    requires still { length store.old.nodes ≡ store.old.lasting }
+    requires names { NamesWithin store.old.lasting names.now.entries }
+    requires short { length line.now ≤ 1024 }
+    requires change { ChangesUpTo (2 ^ 63 - 1) store.old.world }
+    ensures known { is_known_shape (shape_at store.old.world (view_in store.old head)) ≡ true }
+    ensures came { Came result store.old store.new (λ state. concluded state (target_in store.old store.old.handles names.now.entries purpose.Reply head (parts_in line.now parts.now))) (S.taken out.old) (S.taken out.new) (S.faults out.old) (S.faults out.new) }
+{
+    let [part] = parts else {
+        return evaluate_words(store, names, head, line, parts, reply, out, steps);
+    };
+    let typed = type_word(
+        store,
+        names,
+        Purpose::Reply,
+        true,
+        known_shape(store, head),
+        line,
+        part,
+    );
+    match &typed {
+        Ok(word) => match word {
+            Typed::Step(_, _) => {
+                evaluate_words(store, names, head, line, parts, reply, out, steps)
+            }
+            Typed::Call(call) => call_on(store, head, call, reply, out, steps),
+            Typed::With(word, other) => {
+                call_with_on(store, head, *word, *other, reply, out, steps)
+            }
+        },
+        Err(fault) => say_fault(reply, out, *fault),
+    }
+}
+
+/// The same, word by word: all words are typed before the first step is made.
+fn evaluate_words<S: Sink, L: Ledger>(
     store: &mut Store,
     names: &IndexMap<Word, AnyRef>,
     head: AnyRef,

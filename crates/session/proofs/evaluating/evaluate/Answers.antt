@@ -1,36 +1,38 @@
-use Rattle.std.proofs.Common.{◌∙◌, ap, sym}
-use Rattle.std.specs.Result.{result_err}
+use Rattle.std.proofs.Common.{◌∙◌, ap, refl, Ok}
 use Rattle.base_store.specs.Stored.{view_in}
-use Rattle.vocabulary.specs.declared.lines.Purpose.TheVariants as purpose
-use Rattle.session.specs.Environment.{named}
+use Rattle.session.specs.declared.typing.Typed.{Typed}
+use Rattle.session.specs.declared.typing.Typed.TheVariants as typed
 use Rattle.session.specs.Following.{parts_in, target_in}
-use Rattle.session.specs.KnownShapes.{is_known_shape}
-use Rattle.machine.specs.Languages.{known}
-use Rattle.machine.specs.Typing.{typed_words}
-use Rattle.session.proofs.EvalLemmas.{came_back, came_fault, fault_reached, no_fault}
+use Rattle.vocabulary.specs.declared.lines.Purpose.TheVariants as purpose
+use Rattle.machine.specs.Meanings.{calls, calls_with}
+use Rattle.session.proofs.EvalLemmas.{came_fault}
+use Rattle.session.proofs.OneWord.{call_led, came_ended, fault_led, one_part}
 use Rattle.session.proofs.evaluating.evaluate.Goals as goal
 
-pub returns-in-Some-clause-came : goal.returns-in-Some-clause-came
-returns-in-Some-clause-came g c =
+pub returns-in-Call-clause-came : goal.returns-in-Call-clause-came
+returns-in-Call-clause-came g c =
     let s = c.args.store.now in
-    let names = c.args.names.now.entries in
-    let parts = parts_in c.args.line.now c.args.parts.now in
-    let fault = c.in-Some.ensures ∙ ap (λ of. result_err (typed_words known s.world (named s.nodes names) purpose.Reply of parts)) c.known_shape.ensures.shape in
-    came_fault s (target_in s s.handles names purpose.Reply c.args.head parts) c.in-Some.fault (fault_reached s.world s.handles (view_in s c.args.head) _ c.in-Some.fault fault) c.say_fault.ensures
+    let lone = one_part c.args.line.now c.args.parts.now c.part-item.result c.in-len1.len_at_least c.in-len1.len_below c.part-item.is in
+    let ending = calls (Ok c.in-Call.call) in
+    came_ended s c.call_on.new.store (view_in s c.args.head) ending (target_in s s.handles c.args.names.now.entries purpose.Reply c.args.head (parts_in c.args.line.now c.args.parts.now))
+    (call_led c.args.names.now.entries s c.args.head c.args.line.now c.args.parts.now c.part-item.result c.known_shape.result c.type_word-typed.result lone c.known_shape.ensures.shape c.type_word-typed.ensures.meaning
+    (typed.Call c.in-Call.call) ending (c.in-Ok.is ∙ ap (λ (x : Typed). Ok x) c.in-Call.is) refl)
+    c.call_on.ensures
 
-pub follow-end-requires-clause-typed : goal.follow-end-requires-clause-typed
-follow-end-requires-clause-typed g c =
+pub returns-in-With-clause-came : goal.returns-in-With-clause-came
+returns-in-With-clause-came g c =
     let s = c.args.store.now in
-    no_fault _ (c.in_default.ensures ∙ ap (λ of. result_err (typed_words known s.world (named s.nodes c.args.names.now.entries) purpose.Reply of (parts_in c.args.line.now c.args.parts.now))) c.known_shape.ensures.shape)
+    let lone = one_part c.args.line.now c.args.parts.now c.part-item.result c.in-len1.len_at_least c.in-len1.len_below c.part-item.is in
+    let ending = calls_with c.in-With.word (view_in s c.in-With.other) in
+    came_ended s c.call_with_on.new.store (view_in s c.args.head) ending (target_in s s.handles c.args.names.now.entries purpose.Reply c.args.head (parts_in c.args.line.now c.args.parts.now))
+    (call_led c.args.names.now.entries s c.args.head c.args.line.now c.args.parts.now c.part-item.result c.known_shape.result c.type_word-typed.result lone c.known_shape.ensures.shape c.type_word-typed.ensures.meaning
+    (typed.With c.in-With.word c.in-With.other) ending (c.in-Ok.is ∙ ap (λ (x : Typed). Ok x) c.in-With.is) refl)
+    c.call_with_on.ensures
 
-pub returns-clause-came : goal.returns-clause-came
-returns-clause-came g c =
+pub returns-in-Err-clause-came : goal.returns-in-Err-clause-came
+returns-in-Err-clause-came g c =
     let s = c.args.store.now in
-    came_back s c.follow-end.new.store c.conclude-result.new.store _ (target_in s s.handles c.args.names.now.entries purpose.Reply c.args.head (parts_in c.args.line.now c.args.parts.now)) c.follow-end.result
-    c.requires.still c.follow-end.ensures.world c.follow-end.ensures.front c.follow-end.ensures.led c.conclude-result.ensures c.drop_temporary.ensures
-
-pub returns-in-Some-clause-known : goal.returns-in-Some-clause-known
-returns-in-Some-clause-known g c = ap is_known_shape (sym c.known_shape.ensures.shape) ∙ c.known_shape.ensures.known
-
-pub returns-clause-known : goal.returns-clause-known
-returns-clause-known g c = ap is_known_shape (sym c.known_shape.ensures.shape) ∙ c.known_shape.ensures.known
+    let lone = one_part c.args.line.now c.args.parts.now c.part-item.result c.in-len1.len_at_least c.in-len1.len_below c.part-item.is in
+    came_fault s (target_in s s.handles c.args.names.now.entries purpose.Reply c.args.head (parts_in c.args.line.now c.args.parts.now)) c.in-Err.fault
+    (fault_led c.args.names.now.entries s c.args.head c.args.line.now c.args.parts.now c.part-item.result c.known_shape.result c.type_word-typed.result lone c.known_shape.ensures.shape c.type_word-typed.ensures.meaning c.in-Err.fault c.in-Err.is)
+    c.say_fault.ensures
