@@ -5,11 +5,13 @@ pub mod EdgesLemmas
 pub mod EdgeRowsSteps
 pub mod HalvesLemmas
 pub mod HeldEdges
-pub mod IncidentLemmas
+pub mod Positions
+pub mod HalvesAt
 pub mod AtNode
 pub mod NextLemmas
 pub mod CountedLemmas
 pub mod NodesLemmas
 pub mod GraphSteps
+pub mod BothNodes
 pub mod GraphLemmas
 pub mod GraphAnswers
