@@ -12,8 +12,8 @@ use Rattle.elem.specs.Rows.{key_after}
 use Rattle.graph_base.specs.Edges.{Edge}
 use Rattle.network_base.specs.declared.named_edges.Joined.{Joined}
 use Rattle.network_base.specs.NamedEdges.{Named, edge_of, edges_of}
-use Rattle.network_base.proofs.AtNode.{some_under}
-use Rattle.network_base.proofs.Positions.{key_of, nth_after, nth_found}
+use Rattle.graph_base.proofs.HalvesAt.{some_under}
+use Rattle.graph_base.proofs.Positions.{key_of, nth_after, nth_found}
 
 module _ (rows : List Named) where
   pub nth_of : (i : ℕ) → slice_get (edges_of rows) i ≡ option_map edge_of (slice_get rows i)

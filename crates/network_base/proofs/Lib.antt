@@ -1,4 +1,3 @@
-pub mod Positions
 pub mod NamedLemmas
 pub mod AtNode
 pub mod AllEdges

@@ -1,5 +1,5 @@
 use Rattle.std.proofs.Common.{sym, ap, ◌∙◌, slice_get}
-use Rattle.network_base.proofs.Positions.{first_nth}
+use Rattle.graph_base.proofs.Positions.{first_nth}
 use Rattle.network_base.proofs.AllEdges.{no_row, key_present, key_edge}
 use Rattle.network_base.proofs.named_edges.NamedEdges.first.Goals as goal
 
