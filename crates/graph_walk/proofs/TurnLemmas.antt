@@ -1,5 +1,5 @@
 -- Going through a list from each element to the one behind it.
-use Rattle.std.proofs.Common.{◌≡◌, Bool, true, false, cond, ◌||◌, List, [], ◌∷◌, Option, Some, None, slice_get, refl, ap, sym, ◌∙◌}
+use Rattle.std.proofs.Common.{◌≡◌, suc, length, subst, Bool, true, false, cond, ◌||◌, List, [], ◌∷◌, Option, Some, None, slice_get, refl, ap, sym, ◌∙◌}
 use Rattle.std.specs.List.{IsDistinct, AllByRecursion}
 use Rattle.std.proofs.lemmas.Bool.{both_ways}
 use Rattle.elem.specs.declared.elements.Elem.{Elem}
@@ -56,3 +56,22 @@ left-after x (y ∷ ys) d h = by_case (same x y) refl h (left-after x ys (distin
     by_case : (b : Bool) → same x y ≡ b → (b || is_in x ys) ≡ true → (is_in x ys ≡ true → from_on x ys ≡ x ∷ left_at (after x ys) ys) → cond b (y ∷ ys) (from_on x ys) ≡ x ∷ left_at (cond b (slice_get ys 0) (after x ys)) (y ∷ ys)
     by_case true e i rest = ap (λ z. z ∷ ys) (sym (same-is x y e)) ∙ ap (λ zs. x ∷ zs) (sym (left_tail (slice_get ys 0) y ys d (first_among ys) ∙ left-first ys))
     by_case false e i rest = rest i ∙ ap (λ zs. x ∷ zs) (sym (left_tail (after x ys) y ys d (after_among x ys)))
+
+-- one step of a walk along a list: from the next element to the one behind it
+module _ (all : List Elem) (distinct : IsDistinct same all) (o p : Option Elem) (x : Elem) (next : o ≡ Some x) (among : IsAmong o all) (behind : p ≡ after x all) where
+  pub left_on : left_at o all ≡ x ∷ left_at p all
+  left_on = ap (λ q. left_at q all) next ∙ left-after x all distinct (subst (λ q. IsAmong q all) next among) ∙ ap (λ q. x ∷ left_at q all) (sym behind)
+
+  pub fewer_left : length (left_at o all) ≡ suc (length (left_at p all))
+  fewer_left = ap length left_on
+
+  pub still_among : IsAmong p all
+  still_among = subst (λ q. IsAmong q all) (sym behind) (after_among x all)
+
+-- where a walk along a list begins
+module _ (all : List Elem) (o : Option Elem) (first : o ≡ slice_get all 0) where
+  pub all_left : left_at o all ≡ all
+  all_left = ap (λ q. left_at q all) first ∙ left-first all
+
+  pub begins_among : IsAmong o all
+  begins_among = subst (λ q. IsAmong q all) (sym first) (first_among all)

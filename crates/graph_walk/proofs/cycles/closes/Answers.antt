@@ -1,10 +1,10 @@
-use Rattle.std.proofs.Common.{◌≡◌, ◌+◌, suc, true, false, ◌||◌, length, [], ◌∷◌, refl, ap, sym, ◌∙◌, subst, arith}
+use Rattle.std.proofs.Common.{◌≡◌, ◌+◌, true, false, ◌||◌, length, [], ◌∷◌, refl, ap, sym, ◌∙◌, subst, arith}
 use Rattle.std.proofs.lemmas.Bool.{both_ways}
 use Rattle.elem.specs.Elements.{same}
 use Rattle.graph_walk.specs.Graphs.{is_in, nexts}
 use Rattle.graph_walk.specs.Places.{left_at, IsAmong}
 use Rattle.graph_walk.proofs.NextsLemmas.{nexts_distinct}
-use Rattle.graph_walk.proofs.TurnLemmas.{left-first, left-after, first_among, after_among, none_left}
+use Rattle.graph_walk.proofs.TurnLemmas.{left-after, left_on, fewer_left, still_among, all_left, begins_among, none_left}
 use Rattle.graph_walk.proofs.LateLemmas.{closed_by, closed_now, closed_later, closed_skip, does_close, is_closed}
 use Rattle.graph_walk.proofs.cycles.closes.Goals as goal
 use Rattle.graph_walk.proofs.cycles.closes.Goals.{then-one_is_late-via-then-one_is_late, then-one_is_late-via-else-one_is_late+then-same, then-not-has+else-one_is_late+else-same, else-not-has}
@@ -12,8 +12,8 @@ use Rattle.graph_walk.proofs.cycles.closes.Goals.{then-one_is_late-via-then-one_
 pub loop-next-init : goal.loop-next-init
 loop-next-init g c =
     let all = nexts (g.W.Walkable.graph c.args.g.now) c.args.x.now in
-    let whole = ap (λ o. left_at o all) c.first_next-next.ensures.answer ∙ left-first all in record {
-      among = subst (λ o. IsAmong o all) (sym c.first_next-next.ensures.answer) (first_among all);
+    let whole = all_left all c.first_next-next.result c.first_next-next.ensures.answer in record {
+      among = begins_among all c.first_next-next.result c.first_next-next.ensures.answer;
       closed = ap (closed_by c.args.directed c.args.before.now c.args.x.now) whole;
       steps = ap (λ ys. c.first_next-next.new.steps + length ys) whole;
     }
@@ -36,9 +36,7 @@ pub loop-next-smaller : goal.loop-next-smaller
 loop-next-smaller g c =
     let graph = g.W.Walkable.graph c.args.g.now in
     let all = nexts graph c.args.x.now in
-    let there = subst (λ o. IsAmong o all) c.in-Some.is c.loop-next.invariant.among in
-    let turned = ap (λ o. left_at o all) c.in-Some.is ∙ left-after c.in-Some.y all (nexts_distinct graph c.directed-directed.ensures.valid c.args.x.now) there ∙ ap (λ o. c.in-Some.y ∷ left_at o all) (sym c.next_after-next.ensures.answer) in
-    let lengths : length (left_at c.loop-next.next all) ≡ suc (length (left_at c.next_after-next.result all)) = ap length turned in
+    let fewer = fewer_left all (nexts_distinct graph c.directed-directed.ensures.valid c.args.x.now) c.loop-next.next c.next_after-next.result c.in-Some.y c.in-Some.is c.loop-next.invariant.among c.next_after-next.ensures.answer in
     omega arith
 
 pub loop-next-preserved : goal.loop-next-preserved
@@ -48,16 +46,15 @@ loop-next-preserved g c =
     let y = c.in-Some.y in
     let before = c.args.before.now in
     let all = nexts graph x in
-    let there = subst (λ o. IsAmong o all) c.in-Some.is c.loop-next.invariant.among in
-    let turned = ap (λ o. left_at o all) c.in-Some.is ∙ left-after y all (nexts_distinct graph c.directed-directed.ensures.valid x) there ∙ ap (λ o. y ∷ left_at o all) (sym c.next_after-next.ensures.answer) in
-    let lengths : length (left_at c.loop-next.next all) ≡ suc (length (left_at c.next_after-next.result all)) = ap length turned in
+    let left = left_on all (nexts_distinct graph c.directed-directed.ensures.valid x) c.loop-next.next c.next_after-next.result y c.in-Some.is c.loop-next.invariant.among c.next_after-next.ensures.answer in
+    let fewer = fewer_left all (nexts_distinct graph c.directed-directed.ensures.valid x) c.loop-next.next c.next_after-next.result y c.in-Some.is c.loop-next.invariant.among c.next_after-next.ensures.answer in
     let rest = left_at c.next_after-next.result all in
     let step : closed_by c.loop-next.one_is_late before x (y ∷ rest) ≡ closed_by c.if-not-has.one_is_late before x rest = elim c.if-not-has.branch [
       | then-not-has+else-one_is_late+else-same w ↦ closed_later c.loop-next.one_is_late before x y rest (sym c.has.ensures ∙ w.if-not-has.true) w.if-one_is_late.false (sym w.same.ensures.test ∙ w.if-same.false) ∙ ap (λ b. closed_by b before x rest) (sym w.one_is_late-is)
       | else-not-has w ↦ closed_skip c.loop-next.one_is_late before x y rest (sym c.has.ensures ∙ w.if-not-has.false) ∙ ap (λ b. closed_by b before x rest) (sym w.one_is_late-is)
     ] in record {
-      among = subst (λ o. IsAmong o all) (sym c.next_after-next.ensures.answer) (after_among y all);
-      closed = sym step ∙ sym (ap (closed_by c.loop-next.one_is_late before x) turned) ∙ c.loop-next.invariant.closed;
+      among = still_among all (nexts_distinct graph c.directed-directed.ensures.valid x) c.loop-next.next c.next_after-next.result y c.in-Some.is c.loop-next.invariant.among c.next_after-next.ensures.answer;
+      closed = sym step ∙ sym (ap (closed_by c.loop-next.one_is_late before x) left) ∙ c.loop-next.invariant.closed;
       steps = omega arith;
     }
 

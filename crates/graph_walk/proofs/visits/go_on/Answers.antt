@@ -19,20 +19,8 @@ returns-in_ok-push-in-None-clause-finishes g c = λ e l h.
     let walk = c.args.walk.now in
     finishes_left next c.args.frame.now (frames walk) walk.entered walk.left.items e l c.in-None.is (subst (λ m. Finishes next (frames walk) walk.entered m e l) c.in_ok-push-in-None.ensures h)
 
-pub returns-in_ok-enter-in-Some-clause-finishes : goal.returns-in_ok-enter-in-Some-clause-finishes
-returns-in_ok-enter-in-Some-clause-finishes g c = λ e l h.
-    let graph = g.W.Walkable.graph c.args.g.now in
-    let next = nexts graph in
-    let walk = c.args.walk.now in
-    let frame = c.args.frame.now in
-    let x = c.in-Some.x in
-    let o = c.next_after-next.result in
-    let turned = turned_on graph c.directed-directed.ensures.valid frame x o c.in-Some.is (subst (λ p. IsAmong p (next frame.node)) c.in-Some.is c.requires.0.1) c.next_after-next.ensures.answer in
-    let stack = stack_on (is_in x walk.entered) walk.stack.items _ _ (record { node = frame.node; next = o }) (begun next x) c.in_ok-push-in-Some.ensures c.in_ok-enter-in-Some.ensures.stack in
-    finishes_on next frame (frames walk) x o turned walk.entered walk.left.items e l (finishes_same next _ _ _ _ _ _ e l stack c.in_ok-enter-in-Some.ensures.entered c.in_ok-enter-in-Some.ensures.left h)
-
-pub returns-in_ok-enter-in-Some-clause-frames : goal.returns-in_ok-enter-in-Some-clause-frames
-returns-in_ok-enter-in-Some-clause-frames g c =
+pub returns-in_ok-enter-in-Some : goal.returns-in_ok-enter-in-Some
+returns-in_ok-enter-in-Some g c =
     let graph = g.W.Walkable.graph c.args.g.now in
     let next = nexts graph in
     let walk = c.args.walk.now in
@@ -40,34 +28,16 @@ returns-in_ok-enter-in-Some-clause-frames g c =
     let x = c.in-Some.x in
     let o = c.next_after-next.result in
     let there = subst (λ p. IsAmong p (next frame.node)) c.in-Some.is c.requires.0.1 in
+    let node = nexts_nodes graph c.directed-directed.ensures.valid frame.node x there in
     let turned = turned_on graph c.directed-directed.ensures.valid frame x o c.in-Some.is there c.next_after-next.ensures.answer in
     let stack = stack_on (is_in x walk.entered) walk.stack.items _ _ (record { node = frame.node; next = o }) (begun next x) c.in_ok-push-in-Some.ensures c.in_ok-enter-in-Some.ensures.stack in
-    subst (λ fs. AreFrames next graph.nodes fs) (sym stack) (frames_on next frame (frames walk) x o turned graph.nodes (is_in x walk.entered) c.requires (nexts_nodes graph c.directed-directed.ensures.valid frame.node x there) (subst (λ p. IsAmong p (next frame.node)) (sym c.next_after-next.ensures.answer) (after_among x (next frame.node))))
-
-pub returns-in_ok-enter-in-Some-clause-nearer : goal.returns-in_ok-enter-in-Some-clause-nearer
-returns-in_ok-enter-in-Some-clause-nearer g c =
-    let graph = g.W.Walkable.graph c.args.g.now in
-    let next = nexts graph in
-    let walk = c.args.walk.now in
-    let frame = c.args.frame.now in
-    let x = c.in-Some.x in
-    let o = c.next_after-next.result in
-    let there = subst (λ p. IsAmong p (next frame.node)) c.in-Some.is c.requires.0.1 in
-    let turned = turned_on graph c.directed-directed.ensures.valid frame x o c.in-Some.is there c.next_after-next.ensures.answer in
-    let stack = stack_on (is_in x walk.entered) walk.stack.items _ _ (record { node = frame.node; next = o }) (begun next x) c.in_ok-push-in-Some.ensures c.in_ok-enter-in-Some.ensures.stack in
-    nearer_on next frame (frames walk) x o turned graph.nodes walk.entered c.enter.new.walk.entered (frames c.enter.new.walk) (nexts_nodes graph c.directed-directed.ensures.valid frame.node x there) c.in_ok-enter-in-Some.ensures.entered stack
-
-pub returns-in_ok-enter-in-Some-clause-steps : goal.returns-in_ok-enter-in-Some-clause-steps
-returns-in_ok-enter-in-Some-clause-steps g c =
-    let graph = g.W.Walkable.graph c.args.g.now in
-    let next = nexts graph in
-    let walk = c.args.walk.now in
-    let frame = c.args.frame.now in
-    let x = c.in-Some.x in
-    let o = c.next_after-next.result in
-    let turned = turned_on graph c.directed-directed.ensures.valid frame x o c.in-Some.is (subst (λ p. IsAmong p (next frame.node)) c.in-Some.is c.requires.0.1) c.next_after-next.ensures.answer in
-    let stack = stack_on (is_in x walk.entered) walk.stack.items _ _ (record { node = frame.node; next = o }) (begun next x) c.in_ok-push-in-Some.ensures c.in_ok-enter-in-Some.ensures.stack in
-    let made : c.enter.new.steps ≡ c.args.steps.now + 1 + cond (is_in x walk.entered) 0 1 = c.in_ok-enter-in-Some.ensures.steps ∙ ap (λ n. n + cond (is_in x walk.entered) 0 1) c.next_after-next.ensures.step in
-    ap (λ fs. c.enter.new.steps + pending next fs + calls next walk.entered) stack
-    ∙ calls_on next frame (frames walk) x o turned walk.entered c.args.steps.now c.enter.new.steps made
-    ∙ ap (λ e. c.args.steps.now + pending next (frame ∷ frames walk) + calls next e) (sym c.in_ok-enter-in-Some.ensures.entered)
+    let entered = c.in_ok-enter-in-Some.ensures.entered in
+    let made : c.enter.new.steps ≡ c.args.steps.now + 1 + cond (is_in x walk.entered) 0 1 = c.in_ok-enter-in-Some.ensures.steps ∙ ap (λ n. n + cond (is_in x walk.entered) 0 1) c.next_after-next.ensures.step in record {
+      finishes = λ e l h. finishes_on next frame (frames walk) x o turned walk.entered walk.left.items e l (finishes_same next _ _ _ _ _ _ e l stack entered c.in_ok-enter-in-Some.ensures.left h);
+      frames = subst (λ fs. AreFrames next graph.nodes fs) (sym stack) (frames_on next frame (frames walk) x o turned graph.nodes (is_in x walk.entered) c.requires node (subst (λ p. IsAmong p (next frame.node)) (sym c.next_after-next.ensures.answer) (after_among x (next frame.node))));
+      nearer = nearer_on next frame (frames walk) x o turned graph.nodes walk.entered c.enter.new.walk.entered (frames c.enter.new.walk) node entered stack;
+      steps =
+          ap (λ fs. c.enter.new.steps + pending next fs + calls next walk.entered) stack
+          ∙ calls_on next frame (frames walk) x o turned walk.entered c.args.steps.now c.enter.new.steps made
+          ∙ ap (λ e. c.args.steps.now + pending next (frame ∷ frames walk) + calls next e) (sym entered);
+    }
