@@ -1,5 +1,5 @@
 //! Each public call on two range sets: one with ends, whose ranges `[1..3]` and `[4..6]` have a gap that holds no whole
-//! number, and one without ends.
+//! number, and one without ends. And what a set without members answers.
 ghost use Rattle.std.specs.Prelude.{◌≡◌, ◌<◌, ◌≤◌};
 ghost use Rattle.elem.specs.declared.cuts.Cut.TheVariants.{Below, Above};
 ghost use Rattle.elem.specs.declared.elements.Elem.TheVariants.{Int};
@@ -99,6 +99,7 @@ fn few<L: Ledger, A: Abort>(rt: &A, alloc: Global, blank: Blank) -> Result<(), F
     assert!(rt; both.runs() == 1);
     assert!(rt; both.last(&mut steps) == Some(4));
     assert!(rt; both.contains(4, &mut steps));
+    assert!(rt; !both.contains(2, &mut steps));
     assert!(rt; !both.contains(5, &mut steps));
     Ok(())
 }
@@ -127,6 +128,23 @@ fn many<L: Ledger, A: Abort>(rt: &A, alloc: Global, blank: Blank) -> Result<(), 
     Ok(())
 }
 
+fn none<L: Ledger, A: Abort>(rt: &A, alloc: Global, blank: Blank) -> Result<(), Fail>
+    requires name { blank.name ≡ L.name }
+    requires parts { blank.parts ≡ L.parts }
+    requires some { 0 < blank.parts }
+{
+    let mut steps: Steps<L> = Steps::new(blank);
+    let made = DiscreteRows::of(alloc, &[], &mut steps);
+    let set = made.ok().ok_or("memory")?;
+    assert!(rt; set.size(&mut steps) == 0);
+    assert!(rt; !set.contains(0, &mut steps));
+    assert!(rt; set.first(&mut steps) == None);
+    assert!(rt; set.last(&mut steps) == None);
+    assert!(rt; set.item(0, &mut steps) == None);
+    assert!(rt; set.run_at(0, &mut steps) == None);
+    Ok(())
+}
+
 #[test]
 fn ranges_that_meet_at_no_number_are_one_run(rt: HostRuntime) -> Result<(), Fail> {
     let alloc = rt.alloc();
@@ -137,4 +155,10 @@ fn ranges_that_meet_at_no_number_are_one_run(rt: HostRuntime) -> Result<(), Fail
 fn the_least_and_the_greatest_number_are_members(rt: HostRuntime) -> Result<(), Fail> {
     let alloc = rt.alloc();
     many::<Brand, HostRuntime>(&rt, alloc, Blank::new(1))
+}
+
+#[test]
+fn a_set_without_members_has_no_ends(rt: HostRuntime) -> Result<(), Fail> {
+    let alloc = rt.alloc();
+    none::<Brand, HostRuntime>(&rt, alloc, Blank::new(1))
 }
