@@ -5,6 +5,7 @@ ghost use Rattle.elem.specs.Rows.{first_key, last_key, key_after, key_before};
 ghost use Rattle.bimap_base.specs.Pairs.{turned, key_of, HasDistinctValues};
 
 mod putting;
+mod walking;
 
 use crate::key_index::{key_of, take_key};
 use crate::puts::let_go;

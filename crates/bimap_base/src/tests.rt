@@ -92,6 +92,27 @@ fn fewer<L: Ledger>(
     Ok((value, found, key, len, m.len()))
 }
 
+/// The first pair, the last, the one after the key 1 and the one before the key 2.
+fn walked<L: Ledger>(alloc: Global, blank: Blank) -> Result<[Option<(Elem, Elem)>; 4], BiFault>
+    requires name { blank.name ≡ L.name }
+    requires parts { blank.parts ≡ L.parts }
+    requires some { 0 < blank.parts }
+{
+    let mut steps = Steps::<L>::new(blank);
+    let mut m = two(alloc, &mut steps)?;
+    m.put(Elem::Int(3), Elem::Int(30), &mut steps)?;
+    let first = m.first_row(&mut steps);
+    let last = m.last_row(&mut steps);
+    if m.by_key(Elem::Int(1), &mut steps).is_none()
+        || m.by_key(Elem::Int(2), &mut steps).is_none()
+    {
+        return Ok([None; 4]);
+    }
+    let after = m.row_after(Elem::Int(1), &mut steps);
+    let before = m.row_before(Elem::Int(2), &mut steps);
+    Ok([first, last, after, before])
+}
+
 #[test]
 fn a_pair_keeps_its_place(rt: HostRuntime) -> Result<(), Fail> {
     let (refused, before, first, after) = bound::<Brand>(rt.alloc(), Blank::new(1))
@@ -125,5 +146,17 @@ fn pairs_go_from_either_side(rt: HostRuntime) -> Result<(), Fail> {
     assert_eq!(rt; key, Some(Elem::Int(2)));
     assert_eq!(rt; len, 1);
     assert_eq!(rt; cleared, 0);
+    Ok(())
+}
+
+#[test]
+fn pairs_come_with_their_values(rt: HostRuntime) -> Result<(), Fail> {
+    let rows = walked::<Brand>(rt.alloc(), Blank::new(1))
+        .ok()
+        .ok_or("memory")?;
+    assert_eq!(rt; rows[0], Some((Elem::Int(1), Elem::Int(10))));
+    assert_eq!(rt; rows[1], Some((Elem::Int(3), Elem::Int(30))));
+    assert_eq!(rt; rows[2], Some((Elem::Int(2), Elem::Int(20))));
+    assert_eq!(rt; rows[3], Some((Elem::Int(1), Elem::Int(10))));
     Ok(())
 }
