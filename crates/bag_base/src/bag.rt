@@ -7,6 +7,7 @@ ghost use Rattle.elem.specs.Rows.{first_key, last_key, key_after, key_before};
 ghost use Rattle.bag_base.specs.Counts.{most, count_of, AreCounts, occurrences};
 
 mod edits;
+mod walking;
 mod windows;
 
 use crate::CountRows;

@@ -1,4 +1,5 @@
-ghost use Rattle.std.specs.Prelude.{◌≡◌, ◌⊎◌, [], length, true, is_some, Some, IsOk, OnOk, OnErr};
+ghost use Rattle.std.specs.Prelude.{◌≡◌, ◌⊎◌, [], length, true, is_some, Some, IsOk, OnOk, OnErr, IfSome};
+ghost use Rattle.std.specs.Option.{option_map};
 ghost use Rattle.elem.specs.Keyed.{value_at};
 ghost use Rattle.bag_base.specs.Counts.{with_count};
 
@@ -53,6 +54,28 @@ pub trait CountRows: Drop {
     fn before(&self, k: Elem) -> Option<Elem>
         requires { IsPresent (rows self.now) k }
         ensures { result ≡ key_before (same k) (rows self.now) };
+
+    /// The first element, with the number beside it.
+    fn first_row(&self) -> Option<(Elem, u32)>
+        ensures element { option_map (λ row. row.0) result ≡ first_key (rows self.now) }
+        ensures number { IfSome result (λ row. value_at (rows self.now) row.0 ≡ Some row.1) };
+
+    /// The last element, with the number beside it.
+    fn last_row(&self) -> Option<(Elem, u32)>
+        ensures element { option_map (λ row. row.0) result ≡ last_key (rows self.now) }
+        ensures number { IfSome result (λ row. value_at (rows self.now) row.0 ≡ Some row.1) };
+
+    /// The element after `k`, with the number beside it.
+    fn row_after(&self, k: Elem) -> Option<(Elem, u32)>
+        requires { IsPresent (rows self.now) k }
+        ensures element { option_map (λ row. row.0) result ≡ key_after (same k) (rows self.now) }
+        ensures number { IfSome result (λ row. value_at (rows self.now) row.0 ≡ Some row.1) };
+
+    /// The element before `k`, with the number beside it.
+    fn row_before(&self, k: Elem) -> Option<(Elem, u32)>
+        requires { IsPresent (rows self.now) k }
+        ensures element { option_map (λ row. row.0) result ≡ key_before (same k) (rows self.now) }
+        ensures number { IfSome result (λ row. value_at (rows self.now) row.0 ≡ Some row.1) };
 
     /// Adds a row, at the place that the type gives.
     fn insert(&mut self, x: Elem, n: u32) -> Result<(), NoMemory>

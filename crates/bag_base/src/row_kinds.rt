@@ -41,6 +41,22 @@ impl CountRows for FreeLinkedMap<u32> {
         self.before(k)
     }
 
+    fn first_row(&self) -> Option<(Elem, u32)> {
+        self.first_row()
+    }
+
+    fn last_row(&self) -> Option<(Elem, u32)> {
+        self.last_row()
+    }
+
+    fn row_after(&self, k: Elem) -> Option<(Elem, u32)> {
+        self.row_after(k)
+    }
+
+    fn row_before(&self, k: Elem) -> Option<(Elem, u32)> {
+        self.row_before(k)
+    }
+
     fn insert(&mut self, x: Elem, n: u32) -> Result<(), NoMemory> {
         self.insert(x, n)
     }
@@ -94,6 +110,22 @@ impl<C: Compare> CountRows for FreeTreeMapRows<u32, C> {
 
     fn before(&self, k: Elem) -> Option<Elem> {
         self.before(k)
+    }
+
+    fn first_row(&self) -> Option<(Elem, u32)> {
+        self.first_row()
+    }
+
+    fn last_row(&self) -> Option<(Elem, u32)> {
+        self.last_row()
+    }
+
+    fn row_after(&self, k: Elem) -> Option<(Elem, u32)> {
+        self.row_after(k)
+    }
+
+    fn row_before(&self, k: Elem) -> Option<(Elem, u32)> {
+        self.row_before(k)
     }
 
     fn insert(&mut self, x: Elem, n: u32) -> Result<(), NoMemory> {

@@ -2,7 +2,7 @@
 ghost use Rattle.std.specs.Prelude.{◌≡◌, ◌<◌};
 
 use crate::{Bag, BagFault, CountRows, LinkedBag, TreeBag};
-use elem::{Cut, Elem, Reverse, Steps};
+use elem::{Cut, Elem, Reverse, Steps, Window};
 use std::alloc::Global;
 use std::marker::Brand;
 use std::process::Abort;
@@ -42,6 +42,19 @@ fn emptied<R: CountRows, L: Ledger, A: Abort>(
     Ok(())
 }
 
+/// The elements before and after one that is there, each with its count.
+fn rows_around<R: CountRows, L: Ledger>(
+    bag: &Bag<R>,
+    x: &Elem,
+    steps: &mut Steps<L>,
+) -> (Option<(Elem, u32)>, Option<(Elem, u32)>) {
+    if bag.count(*x, steps) == 0 {
+        return (None, None);
+    }
+    let before = bag.row_before(*x, steps);
+    (before, bag.row_after(*x, steps))
+}
+
 /// The elements before and after one that is there.
 fn around<R: CountRows, L: Ledger>(
     bag: &Bag<R>,
@@ -67,6 +80,10 @@ fn linked<L: Ledger, A: Abort>(rt: &A, alloc: Global, blank: Blank) -> Result<()
     let (before, after) = around(&bag, &Elem::Int(2), &mut steps);
     assert!(rt; before.is_none());
     assert!(rt; after == Some(Elem::Int(1)));
+    assert!(rt; bag.first_row(&mut steps) == Some((Elem::Int(2), 3)));
+    assert!(rt; bag.last_row(&mut steps) == Some((Elem::Int(1), 2)));
+    assert!(rt; rows_around(&bag, &Elem::Int(2), &mut steps) == (None, Some((Elem::Int(1), 2))));
+    assert!(rt; rows_around(&bag, &Elem::Int(1), &mut steps) == (Some((Elem::Int(2), 3)), None));
     emptied(rt, &mut bag, &mut steps)
 }
 
@@ -81,6 +98,16 @@ fn sorted<L: Ledger, A: Abort>(rt: &A, alloc: Global, blank: Blank) -> Result<()
     assert!(rt; bag.first_from(&Cut::Above(Elem::Int(2)), &mut steps) == Some(Elem::Int(1)));
     assert!(rt; bag.last_to(&Cut::Below(Elem::Int(1)), &mut steps) == Some(Elem::Int(2)));
     assert!(rt; bag.last_to(&Cut::Below(Elem::Int(2)), &mut steps) == None);
+    assert!(rt; bag.first_row(&mut steps) == Some((Elem::Int(2), 3)));
+    assert!(rt; bag.last_row(&mut steps) == Some((Elem::Int(1), 2)));
+    assert!(rt; rows_around(&bag, &Elem::Int(2), &mut steps) == (None, Some((Elem::Int(1), 2))));
+    let behind = Window {
+        lo: Cut::Above(Elem::Int(2)),
+        hi: Cut::End,
+    };
+    assert!(rt; !behind.hi.is_before::<Reverse>(&behind.lo));
+    assert!(rt; bag.first_row_in(&behind, &mut steps) == Some((Elem::Int(1), 2)));
+    assert!(rt; bag.last_row_in(&behind, &mut steps) == Some((Elem::Int(1), 2)));
     emptied(rt, &mut bag, &mut steps)
 }
 

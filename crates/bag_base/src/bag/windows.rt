@@ -1,5 +1,8 @@
 //! The calls of a bag in an order of its elements.
-ghost use Rattle.std.specs.Prelude.{◌≡◌, ◌+◌};
+ghost use Rattle.std.specs.Prelude.{◌≡◌, ◌+◌, true, Some, IfSome};
+ghost use Rattle.std.specs.Option.{option_map};
+ghost use Rattle.elem.specs.Cuts.{cut_upto};
+ghost use Rattle.elem.specs.Keyed.{value_at};
 ghost use Rattle.elem.specs.Rows.{first_key, last_key};
 ghost use Rattle.plain_base.specs.Sorted.{IsInOrder, rows_between};
 
@@ -31,6 +34,29 @@ impl<C: Compare> Bag<FreeTreeMapRows<u32, C>> {
             lo: Cut::Start,
             hi: *c,
         })
+    }
+
+    /// The first element in a window, with its count. The cuts are read in the order `C`. The next one behind `k` is the
+    /// first of the window that begins above `k`, and the like from the end.
+    pub fn first_row_in<L: Ledger>(&self, w: &Window, steps: &mut Steps<L>) -> Option<(Elem, u32)>
+        requires { cut_upto C.before w.now.lo w.now.hi ≡ true }
+        ensures element { option_map (λ row. row.0) result ≡ first_key (rows_between C.before w.now.lo w.now.hi self.now) }
+        ensures count { IfSome result (λ row. value_at self.now row.0 ≡ Some row.1) }
+        ensures step { steps.new ≡ steps.old + 1 }
+    {
+        steps.tick();
+        self.rows.first_row_in(w)
+    }
+
+    /// The last element in a window, with its count. The cuts are read in the order `C`.
+    pub fn last_row_in<L: Ledger>(&self, w: &Window, steps: &mut Steps<L>) -> Option<(Elem, u32)>
+        requires { cut_upto C.before w.now.lo w.now.hi ≡ true }
+        ensures element { option_map (λ row. row.0) result ≡ last_key (rows_between C.before w.now.lo w.now.hi self.now) }
+        ensures count { IfSome result (λ row. value_at self.now row.0 ≡ Some row.1) }
+        ensures step { steps.new ≡ steps.old + 1 }
+    {
+        steps.tick();
+        self.rows.last_row_in(w)
     }
 
     /// The elements stand in the order `C`.
