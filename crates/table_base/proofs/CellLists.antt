@@ -80,14 +80,16 @@ module _ (r c : Elem) where
       ∙ (λ i. kept_value v us m i ++ cond (its_spot w i) (r, (c, v)) (r, (c, w)) ∷ kept_value v vs n i)
 
 -- a table turned round has the same cells
-pub turned_has : (r c : Elem) (cells : List Cell) → is_some (value_in c r (transposed cells)) ≡ is_some (value_in r c cells)
-turned_has r c [] = refl
-turned_has r c (x ∷ cells) = by_case (same r x.0) (same c x.1.0) refl refl (turned_has r c cells)
+pub turned_value : (r c : Elem) (cells : List Cell) → value_in c r (transposed cells) ≡ value_in r c cells
+turned_value r c [] = refl
+turned_value r c (x ∷ cells) = by_case (same r x.0) (same c x.1.0) refl refl (turned_value r c cells)
   where
-    by_case : (a b : Bool) → same r x.0 ≡ a → same c x.1.0 ≡ b → is_some (value_in c r (transposed cells)) ≡ is_some (value_in r c cells)
-        → is_some (lookup (same r) (cond b ((turned x).1 ∷ row c (transposed cells)) (row c (transposed cells)))) ≡ is_some (lookup (same c) (cond a (x.1 ∷ row r cells) (row r cells)))
-    by_case true true i j h =
-        ap (λ b. is_some (cond b (Some x.1.1) (lookup (same r) (row c (transposed cells))))) i ∙ sym (ap (λ b. is_some (cond b (Some x.1.1) (lookup (same c) (row r cells)))) j)
-    by_case true false i j h = h ∙ sym (ap (λ b. is_some (cond b (Some x.1.1) (lookup (same c) (row r cells)))) j)
-    by_case false true i j h = ap (λ b. is_some (cond b (Some x.1.1) (lookup (same r) (row c (transposed cells))))) i ∙ h
+    by_case : (a b : Bool) → same r x.0 ≡ a → same c x.1.0 ≡ b → value_in c r (transposed cells) ≡ value_in r c cells
+        → lookup (same r) (cond b ((turned x).1 ∷ row c (transposed cells)) (row c (transposed cells))) ≡ lookup (same c) (cond a (x.1 ∷ row r cells) (row r cells))
+    by_case true true i j h = ap (λ b. cond b (Some x.1.1) (lookup (same r) (row c (transposed cells)))) i ∙ sym (ap (λ b. cond b (Some x.1.1) (lookup (same c) (row r cells))) j)
+    by_case true false i j h = h ∙ sym (ap (λ b. cond b (Some x.1.1) (lookup (same c) (row r cells))) j)
+    by_case false true i j h = ap (λ b. cond b (Some x.1.1) (lookup (same r) (row c (transposed cells)))) i ∙ h
     by_case false false i j h = h
+
+pub turned_has : (r c : Elem) (cells : List Cell) → is_some (value_in c r (transposed cells)) ≡ is_some (value_in r c cells)
+turned_has r c cells = ap is_some (turned_value r c cells)

@@ -172,10 +172,10 @@ module _ {nodes : Slab CellNode} {all : Ends} {rows columns : Elem → Option Gr
     core_back : row r (rows_of (cell_at Row nodes) all_cut.after) ≡ rows_of (rest_at Row nodes) (place_cut h Row r c p e).1
     core_back = row_seen nodes Row r all_cut.after ∙ ap (rows_of (rest_at Row nodes)) all_cut.back
 
-    none_front : NonePasses (same c) (row r (rows_of (cell_at Row nodes) all_cut.before))
+    pub none_front : NonePasses (same c) (row r (rows_of (cell_at Row nodes) all_cut.before))
     none_front = subst (NonePasses (same c)) (sym core_front) (none_beside h Row r c p e).0
 
-    none_back : NonePasses (same c) (row r (rows_of (cell_at Row nodes) all_cut.after))
+    pub none_back : NonePasses (same c) (row r (rows_of (cell_at Row nodes) all_cut.after))
     none_back = subst (NonePasses (same c)) (sym core_back) (none_beside h Row r c p e).1
 
     module _ (n : CellNode) (g : get nodes p ≡ Some n) where
@@ -201,7 +201,7 @@ module _ {nodes : Slab CellNode} {all : Ends} {rows columns : Elem → Option Gr
       cell_here : cell_at Row nodes p ≡ Some (r, (c, n.value))
       cell_here = ap (option_map (cell Row)) g ∙ (λ i. Some (own_row i, (own_column i, n.value)))
 
-      cells_cut : cells ≡ rows_of (cell_at Row nodes) all_cut.before ++ (r, (c, n.value)) ∷ rows_of (cell_at Row nodes) all_cut.after
+      pub cells_cut : cells ≡ rows_of (cell_at Row nodes) all_cut.before ++ (r, (c, n.value)) ∷ rows_of (cell_at Row nodes) all_cut.after
       cells_cut = sym h.cells_equal ∙ ap (rows_of (cell_at Row nodes)) all_cut.places ∙ rows_at (cell_at Row nodes) all_cut.before p all_cut.after (r, (c, n.value)) cell_here
 
       -- the spot of the next cell in the thread of all

@@ -14,3 +14,6 @@ pub mod HeldSteps
 pub mod RowOrder
 pub mod HeldOrder
 pub mod TurnedCells
+pub mod WholeCells
+pub mod KeysThere
+pub mod SpotsThere

@@ -1,5 +1,5 @@
 -- The columns of a sorted table, by the tree of its spots turned round.
-use Rattle.std.proofs.Common.{◌≡◌, ℕ, Bool, true, false, not, cond, ◌&&◌, ◌||◌, List, [], ◌∷◌, length, Option, Some, None, refl, sym, ap, ◌∙◌, subst}
+use Rattle.std.proofs.Common.{◌≡◌, Bool, true, false, not, cond, ◌&&◌, ◌||◌, List, [], ◌∷◌, Option, refl, sym, ap, ◌∙◌, subst}
 use Rattle.std.specs.Prelude.{is_some}
 use Rattle.std.specs.Map.{keys_of}
 use Rattle.elem.specs.declared.elements.Elem.{Elem}
@@ -8,16 +8,15 @@ use Rattle.elem.specs.declared.cuts.Cut.TheVariants.{Start, Below, Above, End}
 use Rattle.elem.specs.Cuts.{cut_upto}
 use Rattle.elem.specs.Elements.{same}
 use Rattle.elem.specs.ElementLaws.{same-Decides, same_equiv}
-use Rattle.elem.specs.Keyed.{value_at, IsAbsent, AddsRow}
+use Rattle.elem.specs.Keyed.{value_at, AddsRow}
 use Rattle.elem.specs.Orders.{natural_before}
 use Rattle.elem.specs.OrderLaws.{natural_before_strict}
 use Rattle.elem.specs.Rows.{first_key}
 use Rattle.plain_base.specs.Sorted.{ComesFirst, IsInOrder}
 use Rattle.plain_base.specs.TwoKeys.{both_before, group, by_both, has_both, IsInBothOrder, without_both, with_both}
-use Rattle.plain_base.proofs.SortedCuts.{none_of}
 use Rattle.plain_base.proofs.Having.{has_added, has_without, has_with}
 use Rattle.plain_base.proofs.SameKeys.{same_keys, first_of_keys}
-use Rattle.table_base.specs.Cells.{Cell, row, turned, transposed, column, value_in, with_value}
+use Rattle.table_base.specs.Cells.{Cell, row, column, with_value}
 use Rattle.table_base.specs.TreeCells.{AreTurned}
 use Rattle.table_base.proofs.CellLists.{turned_has}
 

@@ -94,6 +94,10 @@ abbrev pub spot_of_place : Slab CellNode → Option ℕ → Option (Elem × Elem
 spot_of_place nodes None = None
 spot_of_place nodes (Some p) = option_map (λ (n : CellNode). (n.row, n.column)) (get nodes p)
 
+-- the row, the column and the value of the node at a place
+abbrev pub whole_at : Slab CellNode → ℕ → Option (Elem × Elem × Elem)
+whole_at nodes p = option_map (λ (n : CellNode). (n.row, n.column, n.value)) (get nodes p)
+
 -- in each row, or from the other side in each column, what finds the place of a cell finds each one's, and no other
 abbrev pub AreFound : (key : ℕ → Option Elem) (rest : ℕ → Option (Elem × Elem)) (find : Elem → Elem → Option ℕ) (ps : List ℕ) → Type 0
 AreFound key rest find ps = (k : Elem) → IsIndexed rest (find k) (length (of_key key k ps)) (of_key key k ps)

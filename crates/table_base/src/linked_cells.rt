@@ -4,11 +4,14 @@ ghost use Rattle.table_base.specs.Cells.{HasCell, HasDistinctCells, IsGrouped, v
 mod all_cells;
 mod changing;
 mod columns;
+mod entries;
 mod grouped_walks;
 mod rows;
 mod side_changes;
+mod side_entries;
 mod side_reads;
 mod side_walks;
+mod whole_cells;
 
 use crate::cell_nodes::{CellNode, write_value};
 use crate::spots::{Spot, place_of};

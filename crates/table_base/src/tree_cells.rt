@@ -5,7 +5,9 @@ ghost use Rattle.plain_base.specs.TwoKeys.{IsInBothOrder};
 ghost use Rattle.table_base.specs.Cells.{HasCell, row, column, value_in, without_cell, with_value};
 
 mod columns;
+mod entries;
 mod rows;
+mod whole_cells;
 
 use elem::{Elem, NoMemory, Steps};
 use plain_base::FreeTwoKeyRows;

@@ -91,7 +91,7 @@ pub(super) fn place_at(
 }
 
 /// The neighbours of a node in its row or its column.
-fn links_of(node: &CellNode, side: Side) -> Links
+pub(super) fn links_of(node: &CellNode, side: Side) -> Links
     ensures { result ≡ links side node.now }
 {
     match side {

@@ -1,5 +1,5 @@
 use Rattle.std.proofs.Common.{◌≡◌, length, refl, sym, ap, ◌∙◌, arith}
-use Rattle.table_base.specs.Cells.{row, column, transposed, without_row}
+use Rattle.table_base.specs.Cells.{row, transposed, without_row}
 use Rattle.table_base.proofs.RemovedCells.{turned_without, column_removed, one_fewer, others_stay, row_gone, no_first}
 use Rattle.table_base.proofs.tree_cells.TreeCells.drop_column.Goals.{in-Some, in_default}
 use Rattle.table_base.proofs.tree_cells.TreeCells.drop_column.Goals as goal

@@ -1,0 +1,6 @@
+use Rattle.std.proofs.Common.{◌∙◌}
+use Rattle.table_base.proofs.CellLists.{turned_has}
+use Rattle.table_base.proofs.linked_cells.LinkedCells.entry_before_in_column.Goals as goal
+
+pub entry_before-requires : goal.entry_before-requires
+entry_before-requires g c = turned_has c.args.r c.args.c c.args.self.now.cells ∙ c.requires
