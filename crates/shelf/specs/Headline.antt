@@ -1,19 +1,15 @@
 -- What a run of a script leaves.
-use Rattle.std.specs.Prelude.{◌≡◌, ℕ, ◌^◌, ◌<◌, ◌↔◌, List, [], ◌∷◌, ◌++◌, length, take, Option, codes, Result, Ok, Err}
+use Rattle.std.specs.Prelude.{◌≡◌, ℕ, ◌^◌, ◌<◌, ◌↔◌, List, [], ◌++◌, length, take, Option, Result, Ok, Err}
 use Rattle.elem.specs.Outside.{Takes, TakesFront}
 use Rattle.shelf.specs.Transcript.{transcript, whole_lines}
 use Rattle.session.specs.declared.faults.ExecFault.{ExecFault}
 use Rattle.session.specs.declared.faults.ExecFault.TheVariants as faults
 use Rattle.shelf.specs.declared.status.Status.{Status}
-use Rattle.shelf.specs.declared.status.Status.TheVariants.{Done, Usage, ReadFault, WriteFault, NoMemory, TooLong}
+use Rattle.shelf.specs.declared.status.Status.TheVariants.{Done, Usage, OpenFault, ReadFault, WriteFault, NoMemory, TooLong}
 
 -- the greatest number of bytes of a script
 abbrev pub most_bytes : ℕ
 most_bytes = 2 ^ 40
-
--- the words of this command
-abbrev pub IsRun : List (List ℕ) → Type 0
-IsRun words = words ≡ codes "run" ∷ []
 
 -- A script of these bytes was run: `came` was taken of it, and `left` was not.
 pub record Ran (bytes came left : List ℕ) (old new : Option (List ℕ)) (status : Status) : Type 0 where
@@ -46,6 +42,7 @@ status_of (Err status) = status
 abbrev pub number_of : Status → ℕ
 number_of Done = 0
 number_of Usage = 2
+number_of OpenFault = 3
 number_of ReadFault = 4
 number_of WriteFault = 5
 number_of NoMemory = 6

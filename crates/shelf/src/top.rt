@@ -1,11 +1,13 @@
 //! The top call.
-ghost use Rattle.std.specs.Prelude.{◌≡◌, ◌≢◌, ℕ, ◌+◌, ◌-◌, ◌^◌, ◌<◌, ◌≤◌, ◌↔◌, min, List, [], ◌∷◌, length, Option, None, Some, Ok, Err};
-ghost use Rattle.elem.specs.Outside.{Rose, Stays};
+ghost use Rattle.std.specs.Prelude.{◌≡◌, ◌≢◌, ℕ, ◌+◌, ◌-◌, ◌^◌, ◌<◌, ◌≤◌, ◌↔◌, min, List, [], ◌∷◌, length, Option, None, Some, Ok, Err, OnOk, OnErr};
+ghost use Rattle.elem.specs.Outside.{Rose, Stays, Gives};
 ghost use Rattle.machine.specs.State.{empty};
-ghost use Rattle.shelf.specs.Headline.{IsRun, Ran, status_of};
+ghost use Rattle.shelf.specs.Headline.{Ran, status_of};
+ghost use Rattle.shelf.specs.Scripts.{Script, file, IsPath, Names, bytes_of, script_of};
 
 use crate::feeding::{feed, finish};
 use crate::line_buffer::LineBuffer;
+use crate::words::Source;
 use crate::{Status, Words};
 use elem::{Failed, Inputs, Sink, Steps};
 use session::{ExecFault, Session};
@@ -32,7 +34,7 @@ impl From<ExecFault> for Status {
     }
 }
 
-/// Executes the command that the words give.
+/// Runs the script that the words name: `run` names standard input, and `run PATH` a file.
 pub fn run<I: Inputs, S: Sink, L: Ledger>(
     alloc: Global,
     words: &Words,
@@ -40,22 +42,45 @@ pub fn run<I: Inputs, S: Sink, L: Ledger>(
     sink: &mut S,
     steps: &mut Steps<L>,
 ) -> Status
-    ensures usage { (result ≡ Status.Usage) ↔ (IsRun words.now → ⊥) }
+    ensures usage { (result ≡ Status.Usage) ↔ ((script : Script) → Names words.now script → ⊥) }
     ensures usage_writes_nothing { result ≡ Status.Usage → Stays (S.taken sink.old) (S.taken sink.new) }
-    ensures ran { (bytes : List ℕ) → IsRun words.now → I.standard_bytes inputs.old ≡ Some bytes →
+    ensures open_fault { result ≡ Status.OpenFault →
+        (path : List ℕ) × Names words.now (file path) × (I.failed_path inputs.new ≡ Some path) × Rose (I.open_faults inputs.old) (I.open_faults inputs.new) }
+    ensures open_fault_writes_nothing { result ≡ Status.OpenFault → Stays (S.taken sink.old) (S.taken sink.new) }
+    ensures ran { (script : Script) (bytes : List ℕ) → Names words.now script →
+        bytes_of script (I.standard_bytes inputs.old) (I.file_bytes inputs.old) ≡ Some bytes → result ≢ Status.OpenFault →
         (came left : List ℕ) × (I.left inputs.new ≡ Some left) × Ran bytes came left (S.taken sink.old) (S.taken sink.new) result }
     ensures read_fault { result ≡ Status.ReadFault → Rose (I.read_faults inputs.old) (I.read_faults inputs.new) }
     ensures write_fault { result ≡ Status.WriteFault → Rose (S.faults sink.old) (S.faults sink.new) }
     ensures too_long { result ≡ Status.TooLong → min (I.given inputs.old + 2 ^ 40 + 1) (2 ^ 64 - 1) ≤ I.given inputs.new }
 {
-    if !words.is_run() {
+    let Some(source) = words.source() else {
         return Status::Usage;
+    };
+    if open(inputs, source).is_err() {
+        return Status::OpenFault;
     }
-    inputs.standard();
     let mut session = Session::empty(alloc);
     match run_script(&mut session, inputs, sink, steps) {
         Ok(()) => Status::Done,
         Err(status) => status,
+    }
+}
+
+/// Has the inputs give the bytes of a script.
+fn open<I: Inputs>(inputs: &mut I, source: Source) -> Result<(), Failed>
+    requires { (path : List ℕ) → script_of source ≡ file path → IsPath path }
+    ensures left { OnOk result (Gives (bytes_of (script_of source.entry) (I.standard_bytes inputs.old) (I.file_bytes inputs.old)) (I.left inputs.new) []) }
+    ensures fault { OnErr result ((path : List ℕ) × (script_of source.entry ≡ file path) × (I.failed_path inputs.new ≡ Some path) × Rose (I.open_faults inputs.old) (I.open_faults inputs.new)) }
+    ensures reads { I.read_faults inputs.new ≡ I.read_faults inputs.old }
+    ensures given { I.given inputs.new ≡ I.given inputs.old }
+{
+    match source {
+        Source::Standard => {
+            inputs.standard();
+            Ok(())
+        }
+        Source::File(path) => inputs.by_name(path),
     }
 }
 
@@ -70,6 +95,7 @@ fn run_script<I: Inputs, S: Sink, L: Ledger>(
     ensures ran { (bytes : List ℕ) → I.left inputs.old ≡ Some bytes →
         (came left : List ℕ) × (I.left inputs.new ≡ Some left) × Ran bytes came left (S.taken sink.old) (S.taken sink.new) (status_of result) }
     ensures usage { result ≢ Err Status.Usage }
+    ensures open_fault { result ≢ Err Status.OpenFault }
     ensures read_fault { result ≡ Err Status.ReadFault → Rose (I.read_faults inputs.old) (I.read_faults inputs.new) }
     ensures write_fault { result ≡ Err Status.WriteFault → Rose (S.faults sink.old) (S.faults sink.new) }
     ensures too_long { result ≡ Err Status.TooLong → min (I.given inputs.old + 2 ^ 40 + 1) (2 ^ 64 - 1) ≤ I.given inputs.new }

@@ -1,7 +1,9 @@
-//! One script under reads that fail, sinks of each size and other words, and lines at their greatest length.
-use super::{Outside, run_script};
+//! One script from each source under reads that fail and sinks of each size, other words, and lines at their greatest
+//! length.
+use super::{Given, Outside, SOURCES, run_script};
 use crate::Status;
-use elem::{Inputs, MemInputs};
+use elem::{Inputs, MemInputs, MemSink};
+use std::alloc::Global;
 use std::test::Fail;
 
 /// A script, which has 43 bytes.
@@ -20,19 +22,31 @@ const FAILING_READS: [(u64, u64, &[u8]); 5] = [
     (44, 44, b"ok\nnull\n{a=1}\n1\n"),
 ];
 
+/// Runs the script from a source, byte by byte.
+fn run_bytes(
+    alloc: Global,
+    source: &Given,
+    failing_read: Option<u64>,
+    room: usize,
+) -> Result<(Status, MemSink), Fail> {
+    let outside = Outside {
+        source,
+        most: 1,
+        failing_read,
+        room,
+    };
+    run_script(alloc, SCRIPT, &outside)
+}
+
 #[test]
 fn a_read_that_fails_leaves_the_replies_to_whole_lines(rt: HostRuntime) -> Result<(), Fail> {
-    for (first, last, transcript) in FAILING_READS.iter() {
-        for n in *first..=*last {
-            let outside = Outside {
-                words: &["run"],
-                most: 1,
-                failing_read: Some(n),
-                room: 16,
-            };
-            let (status, sink) = run_script(rt.alloc(), SCRIPT, &outside)?;
-            assert_eq!(rt; status, Status::ReadFault);
-            assert_eq!(rt; sink.bytes(), *transcript);
+    for source in SOURCES.iter() {
+        for (first, last, transcript) in FAILING_READS.iter() {
+            for n in *first..=*last {
+                let (status, sink) = run_bytes(rt.alloc(), source, Some(n), 16)?;
+                assert_eq!(rt; status, Status::ReadFault);
+                assert_eq!(rt; sink.bytes(), *transcript);
+            }
         }
     }
     Ok(())
@@ -40,16 +54,12 @@ fn a_read_that_fails_leaves_the_replies_to_whole_lines(rt: HostRuntime) -> Resul
 
 #[test]
 fn a_sink_that_is_full_holds_a_front_of_the_transcript(rt: HostRuntime) -> Result<(), Fail> {
-    for room in 0..TRANSCRIPT.len() {
-        let outside = Outside {
-            words: &["run"],
-            most: 1,
-            failing_read: None,
-            room,
-        };
-        let (status, sink) = run_script(rt.alloc(), SCRIPT, &outside)?;
-        assert_eq!(rt; status, Status::WriteFault);
-        assert_eq!(rt; sink.bytes(), &TRANSCRIPT[..room]);
+    for source in SOURCES.iter() {
+        for room in 0..TRANSCRIPT.len() {
+            let (status, sink) = run_bytes(rt.alloc(), source, None, room)?;
+            assert_eq!(rt; status, Status::WriteFault);
+            assert_eq!(rt; sink.bytes(), &TRANSCRIPT[..room]);
+        }
     }
     Ok(())
 }
@@ -61,7 +71,7 @@ const PIECES: [usize; 10] = [1, 2, 3, 7, 19, 20, 21, 42, 43, 44];
 fn reads_of_any_size_give_one_transcript(rt: HostRuntime) -> Result<(), Fail> {
     for most in PIECES.iter() {
         let outside = Outside {
-            words: &["run"],
+            source: &SOURCES[1],
             most: (*most).max(1),
             failing_read: None,
             room: 16,
@@ -72,6 +82,14 @@ fn reads_of_any_size_give_one_transcript(rt: HostRuntime) -> Result<(), Fail> {
     }
     Ok(())
 }
+
+/// A path of 255 bytes.
+const LONGEST: &str =
+    "ppppppppppppppppppppppppppppppppppppppppppppppppppppppppppppppppppppppppppppppppppppppppppppppppppppppppppppppppppppppppppppppppppppppppppppppppppppppppppppppppppppppppppppppppppppppppppppppppppppppppppppppppppppppppppppppppppppppppppppppppppppppppppppppp";
+
+/// A path of 256 bytes.
+const TOO_LONG: &str =
+    "pppppppppppppppppppppppppppppppppppppppppppppppppppppppppppppppppppppppppppppppppppppppppppppppppppppppppppppppppppppppppppppppppppppppppppppppppppppppppppppppppppppppppppppppppppppppppppppppppppppppppppppppppppppppppppppppppppppppppppppppppppppppppppppppp";
 
 /// The first byte of a line, how many bytes it has, and the reply.
 const LONG_LINES: [(u8, usize, &[u8]); 4] = [
@@ -84,7 +102,7 @@ const LONG_LINES: [(u8, usize, &[u8]); 4] = [
 #[test]
 fn long_lines_in_small_pieces(rt: HostRuntime) -> Result<(), Fail> {
     let outside = Outside {
-        words: &["run"],
+        source: &SOURCES[0],
         most: 7,
         failing_read: None,
         room: 16,
@@ -104,18 +122,52 @@ fn long_lines_in_small_pieces(rt: HostRuntime) -> Result<(), Fail> {
     Ok(())
 }
 
+/// Words that are no command.
+const OTHER_WORDS: [&[&str]; 7] = [
+    &[],
+    &["script"],
+    &["run", ""],
+    &["run", TOO_LONG],
+    &["run", "script", "script"],
+    &["load", "5", "7"],
+    &["RUN"],
+];
+
 #[test]
 fn other_words_are_no_command(rt: HostRuntime) -> Result<(), Fail> {
-    let none: &[&str] = &[];
-    for words in [none, &["run", "nofile"], &["load", "5", "7"], &["RUN"]].iter() {
-        let outside = Outside {
-            words,
-            most: 1,
-            failing_read: None,
-            room: 16,
+    for words in OTHER_WORDS.iter() {
+        let source = Given {
+            words: *words,
+            file: Some("script"),
         };
-        let (status, sink) = run_script(rt.alloc(), SCRIPT, &outside)?;
+        let (status, sink) = run_bytes(rt.alloc(), &source, None, 16)?;
         assert_eq!(rt; status, Status::Usage);
+        assert_eq!(rt; sink.bytes(), b"".as_slice());
+    }
+    Ok(())
+}
+
+#[test]
+fn a_path_of_255_bytes_names_a_file(rt: HostRuntime) -> Result<(), Fail> {
+    let source = Given {
+        words: &["run", LONGEST],
+        file: Some(LONGEST),
+    };
+    let (status, sink) = run_bytes(rt.alloc(), &source, None, 16)?;
+    assert_eq!(rt; status, Status::Done);
+    assert_eq!(rt; sink.bytes(), TRANSCRIPT);
+    Ok(())
+}
+
+#[test]
+fn a_path_that_names_no_file_writes_nothing(rt: HostRuntime) -> Result<(), Fail> {
+    for file in [None, Some("script"), Some("nofile/")].iter() {
+        let source = Given {
+            words: &["run", "nofile"],
+            file: *file,
+        };
+        let (status, sink) = run_bytes(rt.alloc(), &source, None, 16)?;
+        assert_eq!(rt; status, Status::OpenFault);
         assert_eq!(rt; sink.bytes(), b"".as_slice());
     }
     Ok(())
