@@ -1,0 +1,11 @@
+pub mod PassLemmas
+pub mod NextLemmas
+pub mod LifeLemmas
+pub mod KeyedForms
+pub mod GoneSpots
+pub mod BaseSpots
+pub mod ViewPlaces
+pub mod SeenLemmas
+pub mod LaterLemmas
+pub mod RemoveLemmas
+pub mod EditLemmas

@@ -1,0 +1,5 @@
+pub mod Dropped
+pub mod Stands
+pub mod Seats
+pub mod Lives
+pub mod Later
