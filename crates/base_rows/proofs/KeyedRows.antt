@@ -25,7 +25,12 @@ use Rattle.vocabulary.specs.Kinds.{shape_of_kind}
 use Rattle.vocabulary.specs.Known.{is_known_kind}
 use Rattle.view_laws.specs.Following.{IsFrom}
 use Rattle.view_laws.specs.Spots.{row_at}
-use Rattle.vocabulary.specs.Shapes.{is_keyed}
+use Rattle.vocabulary.specs.declared.items.Side.TheVariants.{First, Second}
+use Rattle.vocabulary.specs.Shapes.{is_bimap, is_keyed}
+use Rattle.view_laws.specs.declared.lanes.Lane.{Lane}
+use Rattle.view_laws.specs.declared.lanes.PartAsk.{PartAsk}
+use Rattle.view_laws.specs.declared.lanes.PartAsk.TheVariants.{Any, Is, Within, Nothing}
+use Rattle.view_laws.specs.Serving.{Serves, ServesPart}
 use Rattle.base_rows.proofs.SpotsTold.{at_index, at_key, row_at_index, row_at_key}
 
 -- each is of a known kind
@@ -71,9 +76,38 @@ keys_of_rows (types.TreeMap rows) h = keys_of_entries rows
 keys_of_rows (types.TreeMapReverse rows) h = keys_of_entries rows
 keys_of_rows (types.TreeMapLength rows) h = keys_of_entries rows
 
+-- none is a bimap, in which values tell rows apart, too
+pub no_bimap : (r : BaseRows) → is_bimap (shape_of_kind (kind_of r)) ≡ false
+no_bimap (types.ArrayList rows) = refl
+no_bimap (types.LinkedHashSet rows) = refl
+no_bimap (types.TreeSet rows) = refl
+no_bimap (types.TreeSetReverse rows) = refl
+no_bimap (types.TreeSetLength rows) = refl
+no_bimap (types.LinkedHashMap rows) = refl
+no_bimap (types.TreeMap rows) = refl
+no_bimap (types.TreeMapReverse rows) = refl
+no_bimap (types.TreeMapLength rows) = refl
+
+never : (b : Bool) → b ≡ false → b ≡ true → ⊥
+never b off on = let e : false ≡ true = sym off ∙ on in cc
+
 -- its keys differ where those of the rows do
 pub has_keys : (r : BaseRows) → IsDistinct same (keys_in r) → HasKeys (plain r)
-has_keys r d = λ keyed. subst (IsDistinct same) (sym (keys_of_rows r keyed)) d
+has_keys r d = by
+  where
+    by : HasKeys (plain r)
+    by First keyed = subst (IsDistinct same) (sym (keys_of_rows r keyed)) d
+    by Second bimap = absurd (never (is_bimap (shape_of_kind (kind_of r))) (no_bimap r) bimap)
+
+-- a lane that one serves asks of its keys alone
+pub of_keys_alone : (r : BaseRows) (lane : Lane) → Serves (kind_of r) lane → lane.second ≡ Any
+of_keys_alone r lane serves = by lane.second serves.values
+  where
+    by : (ask : PartAsk) → ServesPart (kind_of r) Second ask → ask ≡ Any
+    by Any s = refl
+    by (Is x) s = absurd (never (is_bimap (shape_of_kind (kind_of r))) (no_bimap r) s)
+    by (Within order w) s = absurd s
+    by Nothing s = absurd s
 
 -- ---- the row of a key
 

@@ -14,19 +14,20 @@ use Rattle.view_laws.specs.declared.lanes.PartAsk.{PartAsk}
 use Rattle.view_laws.specs.declared.lanes.PartAsk.TheVariants.{Any, Is, Within, Nothing}
 use Rattle.view_laws.specs.ItemForms.{has_form}
 use Rattle.view_laws.specs.Lanes.{meets, takes}
-use Rattle.view_laws.specs.Serving.{ServesKeys}
+use Rattle.vocabulary.specs.declared.items.Side.TheVariants.{First}
+use Rattle.view_laws.specs.Serving.{ServesPart}
 use Rattle.view_laws.proofs.ListLemmas.{both_true}
 
 -- what a base serves has windows in the order of its kind
-window_of : (kind : Kind) (ask : PartAsk) → ServesKeys kind ask → HasWindowIn (before (order_of_kind kind)) ask
+window_of : (kind : Kind) (ask : PartAsk) → ServesPart kind First ask → HasWindowIn (before (order_of_kind kind)) ask
 window_of kind Any s = tt
 window_of kind (Is k) s = tt
 window_of kind (Within order w) s = (ap before s.1, subst (λ o. upto o w.lo w.hi ≡ true) s.1 s.2)
 window_of kind Nothing s = tt
 
 -- so a base of a type has them in the order of its kind
-pub window_in : (self r : BaseRows) (ask : PartAsk) → self ≡ r → ServesKeys (kind_of self) ask → HasWindowIn (before (order_of_kind (kind_of r))) ask
-window_in self r ask e s = window_of (kind_of r) ask (subst (λ x. ServesKeys (kind_of x) ask) e s)
+pub window_in : (self r : BaseRows) (ask : PartAsk) → self ≡ r → ServesPart (kind_of self) First ask → HasWindowIn (before (order_of_kind (kind_of r))) ask
+window_in self r ask e s = window_of (kind_of r) ask (subst (λ x. ServesPart (kind_of x) First ask) e s)
 
 module _ {V : Type 0} (row_of : Elem → V → Item) (kept : (k : Elem) (v : V) → key_of (row_of k v) ≡ k) (self r : BaseRows) (e : self ≡ r) (form : (k : Elem) (v : V) → has_form (shape_of_kind (kind_of r)) (row_of k v) ≡ true) (passes : Item → Bool) where
   own_form : (k : Elem) (v : V) → has_form (shape_of_kind (kind_of self)) (row_of k v) ≡ true

@@ -13,6 +13,7 @@ use Rattle.view_laws.specs.declared.places.RowSpot.{RowSpot}
 use Rattle.view_laws.specs.declared.places.RowSpot.TheVariants.{Index, Key}
 use Rattle.view_laws.specs.Spots.{row_at, same_spot, TellRows}
 use Rattle.vocabulary.specs.declared.items.Item.{Item}
+use Rattle.vocabulary.specs.declared.items.Side.TheVariants.{First}
 use Rattle.vocabulary.specs.Items.{key_of}
 use Rattle.vocabulary.specs.Kinds.{shape_of_kind}
 use Rattle.vocabulary.specs.Shapes.{is_keyed}
@@ -86,7 +87,7 @@ keys_apart [] d = tt
 keys_apart (row ∷ rows) d = (other_keys (key_of row) rows d.0, keys_apart rows d.1)
 
 pub spots_tell : SpotsTell
-spots_tell it keys = by (is_keyed (shape_of_kind it.kind)) keys
+spots_tell it keys = by (is_keyed (shape_of_kind it.kind)) (keys First)
   where
     by : (b : Bool) → (b ≡ true → IsDistinct same (map key_of it.rows)) → TellRows (cond b (map key_spot it.rows) (numbered 0 it.rows)) it.rows
     by true d = record { as_many = length-map it.rows key_spot; apart = keys_apart it.rows (d refl) }

@@ -5,12 +5,14 @@ use Rattle.elem.specs.declared.elements.Elem.{Elem}
 use Rattle.elem.specs.Elements.{same}
 use Rattle.vocabulary.specs.declared.items.Item.{Item}
 use Rattle.vocabulary.specs.declared.kinds.Kind.{Kind}
-use Rattle.vocabulary.specs.Items.{key_of}
+use Rattle.vocabulary.specs.declared.items.Side.{Side}
+use Rattle.vocabulary.specs.Items.{key_of, part_of}
 use Rattle.vocabulary.specs.Kinds.{shape_of_kind}
 use Rattle.vocabulary.specs.Shapes.{is_keyed}
 use Rattle.machine.specs.Bases.{Base}
 use Rattle.view_laws.specs.declared.places.RowSpot.{RowSpot}
 use Rattle.view_laws.specs.declared.places.RowSpot.TheVariants.{Index, Key}
+use Rattle.view_laws.specs.Serving.{is_unique}
 use Rattle.view_laws.specs.Spots.{TellRows}
 
 abbrev pub key_spot : Item → RowSpot
@@ -25,9 +27,9 @@ numbered n (row ∷ rows) = Index n ∷ numbered (n + 1) rows
 abbrev pub spots_of : Kind → List Item → List RowSpot
 spots_of kind rows = cond (is_keyed (shape_of_kind kind)) (map key_spot rows) (numbered 0 rows)
 
--- no two rows of a base that goes by key have the same key
+-- no two rows of a base share a part that tells its rows apart
 abbrev pub HasKeys : Base → Type 0
-HasKeys it = is_keyed (shape_of_kind it.kind) ≡ true → IsDistinct same (map key_of it.rows)
+HasKeys it = (side : Side) → is_unique (shape_of_kind it.kind) side ≡ true → IsDistinct same (map (part_of side) it.rows)
 
 -- so the spots tell them apart
 abbrev pub SpotsTell : Type 0

@@ -12,7 +12,7 @@ use Rattle.view_steps.proofs.WorldLemmas.{written_at}
 -- a base without rows has no key twice
 pub empty_keys : (kind : Kind) → HasKeys (empty_base kind)
 unfolding IsDistinct
-empty_keys kind keyed = tt
+empty_keys kind side unique = tt
 
 pub no_base : (b : ℕ) → HasKeys (base_at [] b)
 no_base b = empty_keys LinkedHashMap

@@ -19,7 +19,7 @@ use Rattle.view_laws.specs.Lanes.{all, takes}
 use Rattle.view_laws.specs.LookUps.{of_element}
 use Rattle.view_laws.specs.RowForm.{RowForm, form_of, form_over, is_by_row, shows}
 use Rattle.view_laws.specs.Serving.{Serves}
-use Rattle.view_steps.specs.KnownLanes.{KeyDown}
+use Rattle.view_steps.proofs.ComingDown.{KeyDown}
 use Rattle.view_steps.specs.KnownViews.{is_known_view, number_under}
 use Rattle.view_steps.specs.RowHits.{is_row_hit}
 use Rattle.base_store.specs.declared.store.courses.Course.{Course}

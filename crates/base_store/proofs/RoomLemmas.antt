@@ -8,6 +8,7 @@ use Rattle.elem.specs.Elements.{same}
 use Rattle.vocabulary.specs.declared.edits.Spot.{Spot}
 use Rattle.vocabulary.specs.declared.edits.Spot.TheVariants.{Own, Swapped, Before, Instead, InKey}
 use Rattle.vocabulary.specs.declared.items.Item.{Item}
+use Rattle.vocabulary.specs.declared.items.Side.TheVariants.{First}
 use Rattle.vocabulary.specs.declared.kinds.Kind.{Kind}
 use Rattle.machine.specs.Edits.{adding, edited}
 use Rattle.view_steps.specs.KnownViews.{edited_at}
@@ -54,7 +55,7 @@ own_same : (kind : Kind) → is_known_kind kind ≡ true → (rows : List Item) 
 own_same kind known rows new is keys = by (is_keyed (shape_of_kind kind)) refl is
   where
     by : (t : Bool) → is_keyed (shape_of_kind kind) ≡ t → cond t (not (is_some (find (λ row. same (key_of new) (key_of row)) rows))) true ≡ false → length (placed kind rows new) ≡ length rows
-    by true keyed h = keyed_old kind known rows new keyed (not_false (is_some (find (λ row. same (key_of new) (key_of row)) rows)) h) (keys keyed)
+    by true keyed h = keyed_old kind known rows new keyed (not_false (is_some (find (λ row. same (key_of new) (key_of row)) rows)) h) (keys First keyed)
       where
         not_false : (b : Bool) → not b ≡ false → b ≡ true
         not_false true e = refl

@@ -11,12 +11,17 @@ use Rattle.view_laws.specs.Spots.{TellAll, TellRows}
 use Rattle.view_steps.specs.KnownViews.{has_none}
 use Rattle.base_rows.specs.BaseSpots.{HasKeys, IsRowAt, numbered, spots_of}
 use Rattle.base_store.specs.Courses.{spots_in}
+use Rattle.vocabulary.specs.declared.items.Side.TheVariants.{First, Second}
 use Rattle.view_steps.proofs.KnownLemmas.{none_there}
 use Rattle.base_rows.proofs.SpotsTold.{spots_tell}
 
 -- numbers tell rows apart, as in a list
 numbers_tell : (rows : List Item) → TellRows (numbered 0 rows) rows
-numbers_tell rows = spots_tell (record { kind = ArrayList; rows = rows; keys = []; change = 0; frozen = false }) (λ keyed. absurd (cc))
+numbers_tell rows = spots_tell (record { kind = ArrayList; rows = rows; keys = []; change = 0; frozen = false }) none
+  where
+    none : HasKeys (record { kind = ArrayList; rows = rows; keys = []; change = 0; frozen = false })
+    none First unique = absurd (cc)
+    none Second unique = absurd (cc)
 
 tell_at : (world : World) (l : Leaf) → HasKeys (base_at world l.number) → TellRows (spots_in world l) (leaf_at world l).rows
 tell_at world l keys = by (has_none l.steps) refl

@@ -1,6 +1,6 @@
 -- What a known view takes of rows depends on their keys alone, and in a list on nothing.
-use Rattle.std.proofs.Common.{◌≡◌, true, ◌&&◌, refl, sym, ◌∙◌}
-use Rattle.elem.specs.declared.elements.Elem.{Elem}
+use Rattle.std.proofs.Common.{◌≡◌, true, false, ◌&&◌, Option, Some, refl, ap, sym, subst, ◌∙◌}
+use Rattle.std.specs.Option.{IfSome}
 use Rattle.machine.specs.Bases.{World}
 use Rattle.machine.specs.Leaves.{leaf_at}
 use Rattle.machine.specs.MadeViews.{IsMade}
@@ -8,50 +8,50 @@ use Rattle.machine.specs.Views.{View, base, base_under, both, over, shape_at}
 use Rattle.view_laws.specs.RowForm.{RowForm, form_of, form_over}
 use Rattle.view_steps.specs.KnownViews.{is_known, is_known_view}
 use Rattle.vocabulary.specs.declared.items.Item.{Item}
-use Rattle.vocabulary.specs.declared.items.Item.TheVariants.{Entry, Cell}
+use Rattle.vocabulary.specs.declared.items.Side.{Side}
+use Rattle.vocabulary.specs.declared.items.Side.TheVariants.{First, Second}
 use Rattle.vocabulary.specs.declared.steps.ChangeStep.TheVariants.{Transform, TransformValues, AsMap}
 use Rattle.vocabulary.specs.declared.steps.PlainStep.TheVariants.{Reverse, KeySet, Values, EntrySet, Keys, Descending, Inverse, Transpose, ForMap, Unmodifiable}
 use Rattle.vocabulary.specs.declared.steps.Step.{Step}
 use Rattle.vocabulary.specs.declared.steps.Step.TheVariants as step
-use Rattle.vocabulary.specs.Items.{key_of, with_value}
+use Rattle.vocabulary.specs.Items.{key_of, part_of}
 use Rattle.vocabulary.specs.Kinds.{shape_of_kind}
 use Rattle.vocabulary.specs.Known.{is_known_kind}
 use Rattle.vocabulary.specs.Orders.{lies_in}
 use Rattle.vocabulary.specs.Shapes.{is_keyed}
-use Rattle.vocabulary.specs.Steps.{family_of}
-use Rattle.view_steps.proofs.KeptKeys.{KeepsKeys, keyed_down, sorted_keyed, window_sorted}
+use Rattle.vocabulary.specs.Steps.{family_of, item_of}
+use Rattle.view_laws.specs.Narrowing.{source_of, tells}
+use Rattle.view_laws.specs.Serving.{is_unique}
+use Rattle.view_laws.proofs.PartTable.{part_told}
+use Rattle.view_steps.proofs.ItemLemmas.{item_over}
+use Rattle.view_steps.proofs.KindLemmas.{no_bimap}
 use Rattle.view_steps.proofs.KnownLemmas.{known_over, known_shape}
+use Rattle.view_steps.proofs.UniqueParts.{bimap_base, part_down, sorted_keyed, window_sorted}
 
 -- ---- keys of items
 
-another_value : (item : Item) (w : Elem) → key_of (with_value item w) ≡ key_of item
-another_value (Entry k v) w = refl
-another_value (Cell r c v) w = refl
-another_value _ w = refl
+-- a known step under which keys are keys tells the key of each item
+tells_first : (it : Step) (item : Item) → is_known it ≡ true → source_of it First ≡ Some First → tells it First item ≡ true
+tells_first (step.Plain Values) item known from = absurd (cc)
+tells_first (step.Plain Inverse) item known from = absurd (cc)
+tells_first (step.Plain Transpose) item known from = absurd (cc)
+tells_first (step.At side k n) item known from = absurd (cc)
+tells_first (step.Change Transform g) item known from = refl
+tells_first (step.Change TransformValues g) item known from = refl
+tells_first (step.Change AsMap g) item known from = refl
+tells_first _ item known from = refl
 
--- a step that keeps keys leaves an item its key
-kept_key : (it : Step) (f : RowForm) (row : Item) → is_known it ≡ true → KeepsKeys it → key_of ((form_over (family_of it) it f).item row) ≡ key_of (f.item row)
-kept_key (step.Plain Reverse) f row known keeps = refl
-kept_key (step.Plain KeySet) f row known keeps = refl
-kept_key (step.Plain Values) f row known keeps = absurd keeps
-kept_key (step.Plain EntrySet) f row known keeps = refl
-kept_key (step.Plain Keys) f row known keeps = refl
-kept_key (step.Plain Descending) f row known keeps = refl
-kept_key (step.Plain Inverse) f row known keeps = absurd (cc)
-kept_key (step.Plain Transpose) f row known keeps = absurd (cc)
-kept_key (step.Plain ForMap) f row known keeps = refl
-kept_key (step.Plain Unmodifiable) f row known keeps = refl
-kept_key (step.Filter word p) f row known keeps = refl
-kept_key (step.FilterPairs q) f row known keeps = refl
-kept_key (step.Change Transform g) f row known keeps = absurd keeps
-kept_key (step.Change TransformValues g) f row known keeps = another_value (f.item row) _
-kept_key (step.Change AsMap g) f row known keeps = refl
-kept_key (step.Within order w) f row known keeps = refl
-kept_key (step.At side k n) f row known keeps = absurd (cc)
-kept_key (step.Group side made) f row known keeps = refl
-kept_key (step.Sub n s) f row known keeps = refl
-kept_key (step.Partition n) f row known keeps = refl
-kept_key (step.Piece n s) f row known keeps = refl
+kept_key : (it : Step) (f : RowForm) (row : Item) → is_known it ≡ true → source_of it First ≡ Some First → key_of ((form_over (family_of it) it f).item row) ≡ key_of (f.item row)
+kept_key it f row known from =
+    ap key_of (item_over it f row)
+    ∙ subst (λ (o : Option Side). IfSome o (λ (below : Side). part_of First (item_of it (f.item row)) ≡ part_of below (f.item row))) from (part_told it First (f.item row) (tells_first it (f.item row) known from))
+
+-- what tells items apart below is the key, since no known base is a bimap
+from_key : (world : World) (v : View) (side : Side) → is_known_view v ≡ true → is_known_kind (leaf_at world (base_under v)).kind ≡ true → IsMade world v → is_unique (shape_at world v) side ≡ true → side ≡ First
+from_key world v First known kind made unique = refl
+from_key world v Second known kind made unique =
+    let e : true ≡ false = sym (bimap_base world v known kind made unique) ∙ no_bimap (leaf_at world (base_under v)).kind kind in
+    absurd (cc)
 
 -- a view that goes by key stands on a base that does, and its items have the keys of their rows
 record HasRowKeys (world : World) (v : View) : Type 0 where
@@ -62,9 +62,10 @@ row_keys : (world : World) (v : View) → is_known_view v ≡ true → is_known_
 row_keys world (base l) known kind made keyed = record { keyed = keyed; keys = λ row. refl }
 row_keys world (over it v) known kind made keyed =
     let k = known_over it v known in
-    let down = keyed_down (shape_at world v) it (known_shape world v k.1 kind) made.0.given keyed in
-    let below : HasRowKeys world v = row_keys world v k.1 kind made.1 down.0 in
-    record { keyed = below.keyed; keys = λ row. kept_key it (form_of v) row k.0 down.1 ∙ below.keys row }
+    let p = part_down (shape_at world v) it First (known_shape world v k.1 kind) made.0.given keyed in
+    let first : p.below ≡ First = from_key world v p.below k.1 kind made.1 p.unique in
+    let below : HasRowKeys world v = row_keys world v k.1 kind made.1 (subst (λ (side : Side). is_unique (shape_at world v) side ≡ true) first p.unique) in
+    record { keyed = below.keyed; keys = λ row. kept_key it (form_of v) row k.0 (p.from ∙ ap Some first) ∙ below.keys row }
 row_keys world (both word v u) known kind made keyed = absurd (cc)
 
 -- ---- rows that are taken

@@ -36,18 +36,18 @@ use Rattle.view_laws.specs.LookUps.{of_element}
 use Rattle.view_laws.specs.Places.{found_in, passes_at}
 use Rattle.view_laws.specs.RowForm.{is_by_row}
 use Rattle.view_laws.specs.RowPlaces.{IsOfRow, number_of, spots_taken}
-use Rattle.view_laws.specs.Serving.{Serves, ServesKeys}
+use Rattle.vocabulary.specs.declared.items.Side.TheVariants.{First}
+use Rattle.view_laws.specs.Serving.{Serves, ServesPart}
 use Rattle.view_laws.specs.Spots.{TellAll}
 use Rattle.view_laws.specs.ViewPlaces.{place_of, places, show}
 use Rattle.view_laws.proofs.JoinLines.{found-in-lane}
 use Rattle.view_laws.proofs.ListLemmas.{and-true}
 use Rattle.view_laws.proofs.RowPlaceLemmas.{length-turned, row_at_place}
 use Rattle.view_laws.proofs.ViewStands.{as_many}
-use Rattle.view_steps.specs.KnownLanes.{KeyDown}
 use Rattle.view_steps.specs.KnownViews.{is_known_view, number_under}
 use Rattle.read_chain.proofs.CourseLemmas.{course_line, spots_along}
 use Rattle.view_steps.proofs.MemberLemmas.{StandsIn, in_kept}
-use Rattle.view_steps.proofs.ComingDown.{key_comes_down}
+use Rattle.view_steps.proofs.ComingDown.{KeyDown, key_comes_down, keys_alone}
 use Rattle.read_chain.proofs.UnderLemmas.{IsThere, is_there, kind_under, spots_under}
 
 -- ---- one row of a key
@@ -106,10 +106,10 @@ not_one k all =
 pub few_of_key : (it : Base) (lane : Lane) (k : Elem) (spots : List RowSpot) → is_known_kind it.kind ≡ true → HasKeys it → Serves it.kind lane → ((row : Item) → takes lane row ≡ true → same k (key_of row) ≡ true) → length (spots_taken (takes lane) spots it.rows) ≤ 1
 few_of_key it lane k spots known keys served alone = by lane.first refl served.keys
   where
-    by : (ask : PartAsk) → lane.first ≡ ask → ServesKeys it.kind ask → length (spots_taken (takes lane) spots it.rows) ≤ 1
-    by Any e is = absurd (not_one k (λ x. alone (One x) (λ i. meets (e i) x && meets (served.values i) (second_of (One x)))))
-    by (Is y) e is = one_taken k (takes lane) spots it.rows (keys is) alone
-    by (Within order w) e is = one_taken k (takes lane) spots it.rows (keys (sorted_keyed it.kind known is.0)) alone
+    by : (ask : PartAsk) → lane.first ≡ ask → ServesPart it.kind First ask → length (spots_taken (takes lane) spots it.rows) ≤ 1
+    by Any e is = absurd (not_one k (λ x. alone (One x) (λ i. meets (e i) x && meets (keys_alone it.kind lane known served i) (second_of (One x)))))
+    by (Is y) e is = one_taken k (takes lane) spots it.rows (keys First is) alone
+    by (Within order w) e is = one_taken k (takes lane) spots it.rows (keys First (sorted_keyed it.kind known is.0)) alone
     by Nothing e is = nothing_taken (takes lane) spots it.rows (λ row i. meets (e i) (key_of row) && meets lane.second (second_of row))
 
 -- ---- what a look-up finds

@@ -20,12 +20,12 @@ use Rattle.vocabulary.specs.declared.shapes.Shape.{Shape}
 use Rattle.vocabulary.specs.declared.shapes.Shape.TheVariants as shape
 use Rattle.vocabulary.specs.declared.steps.ChangeStep.TheVariants.{Transform, TransformValues, AsMap}
 use Rattle.vocabulary.specs.declared.steps.FilterStep.TheVariants as filter_by
-use Rattle.vocabulary.specs.declared.steps.PlainStep.TheVariants.{Reverse, KeySet, Values, EntrySet, Descending, ForMap, Unmodifiable}
+use Rattle.vocabulary.specs.declared.steps.PlainStep.TheVariants.{Reverse, KeySet, Values, EntrySet, Descending, Inverse, ForMap, Unmodifiable}
 use Rattle.vocabulary.specs.declared.steps.StepForm.{StepForm}
 use Rattle.vocabulary.specs.declared.steps.StepForm.TheVariants as form
 use Rattle.vocabulary.specs.Known.{form_of_call, is_known_call, is_known_kind, is_known_step}
 use Rattle.vocabulary.specs.Limits.{most_rows}
-use Rattle.vocabulary.specs.StepShapes.{apply_form, on_coll, on_list, on_map, on_set, where_sorted}
+use Rattle.vocabulary.specs.StepShapes.{apply_form, on_bimap, on_coll, on_list, on_map, on_set, where_sorted}
 use Rattle.machine.specs.Answering.{Answered, answer_at, answered, answered_with, carried_out, unless_refused, within_rows}
 use Rattle.machine.specs.Answers.{answer_of, answer_with, element_of}
 use Rattle.machine.specs.Bases.{Base, World, base_at}
@@ -94,6 +94,19 @@ map_known sorted (form.Plain ForMap) h = absurd (cc)
 map_known sorted (form.Plain Unmodifiable) h = refl
 map_known sorted _ h = tt
 
+bimap_known : (it : StepForm) → is_known_step it ≡ true → Known (on_bimap it)
+bimap_known (form.Plain KeySet) h = refl
+bimap_known (form.Plain Values) h = refl
+bimap_known (form.Plain EntrySet) h = refl
+bimap_known (form.Filter filter_by.FilterKeys) h = refl
+bimap_known (form.Filter filter_by.FilterValues) h = refl
+bimap_known form.FilterPairs h = refl
+bimap_known (form.Change TransformValues) h = refl
+bimap_known (form.Plain ForMap) h = absurd (cc)
+bimap_known (form.Plain Inverse) h = refl
+bimap_known (form.Plain Unmodifiable) h = refl
+bimap_known _ h = tt
+
 -- a known step on a view of a known shape gives a known shape
 pub given_known : (on : Shape) (it : StepForm) → is_known_shape on ≡ true → is_known_step it ≡ true → Known (apply_form on it)
 given_known shape.List it k h = list_known it h
@@ -101,6 +114,7 @@ given_known (shape.Set sorted) it k h = set_known sorted it h
 given_known shape.Coll it k h = coll_known it h
 given_known (shape.Rows sort) it k h = tt
 given_known (shape.Map sorted) it k h = map_known sorted it h
+given_known shape.BiMap it k h = bimap_known it h
 given_known _ it k h = absurd (cc)
 
 -- a known view of a base of a known kind has a known shape
@@ -113,6 +127,7 @@ text_known (shape.Set sorted) world v h = refl
 text_known shape.Coll world v h = refl
 text_known (shape.Rows rows.Entry) world v h = refl
 text_known (shape.Map sorted) world v h = refl
+text_known shape.BiMap world v h = refl
 text_known _ world v h = absurd (cc)
 
 -- the text of a view of a known shape lists its items
@@ -129,6 +144,7 @@ item_known (shape.Set sorted) _ h = absurd h
 item_known shape.Coll _ h = absurd h
 item_known (shape.Rows rows.Entry) _ h = absurd h
 item_known (shape.Map sorted) _ h = absurd h
+item_known shape.BiMap _ h = absurd h
 item_known _ _ h = absurd h
 
 items_known : (of : Shape) (items : List Item) → Each (IsItemIn of) items → AreKnown items
@@ -175,6 +191,7 @@ answer_known of (call.Indexed AddAt i x) items h = refl
 answer_known of (call.Indexed SetAt i x) items h = element_known _
 answer_known of (call.Counted word x n) items h = absurd (cc)
 answer_known of (call.Pair pair.Put k v) items h = refl
+answer_known of (call.Pair pair.ForcePut k v) items h = refl
 answer_known of (call.Pair pair.ContainsEntry k v) items h = refl
 answer_known of (call.Pair pair.RemoveEntry k v) items h = refl
 answer_known of (call.Pair _ k v) items h = absurd (cc)

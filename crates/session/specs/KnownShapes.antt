@@ -1,4 +1,4 @@
--- The shapes of lists, sets and maps, and of the known views of them; and what these show.
+-- The shapes of lists, sets, maps and bimaps, and of the known views of them; and what these show.
 use Rattle.std.specs.Prelude.{◌≡◌, Bool, true, false, List}
 use Rattle.std.specs.List.{AllByRecursion}
 use Rattle.vocabulary.specs.declared.answers.Answer.{Answer}
@@ -15,6 +15,7 @@ is_known_shape (shape.Set sorted) = true
 is_known_shape shape.Coll = true
 is_known_shape (shape.Rows rows.Entry) = true
 is_known_shape (shape.Map sorted) = true
+is_known_shape shape.BiMap = true
 is_known_shape other = false
 
 -- an element, or a key and its value

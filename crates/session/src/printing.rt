@@ -38,7 +38,7 @@ pub fn print<S: Sink, L: Ledger>(
     reply.end(out)
 }
 
-/// The shape of a node, which is one of lists, sets and maps. Reading such a view is not refused.
+/// The shape of a node, which is one of lists, sets, maps and bimaps. Reading such a view is not refused.
 pub fn known_shape(store: &Store, n: AnyRef) -> Shape
     requires { n < length store.now.nodes }
     ensures shape { result ≡ shape_at store.now.world (view_in store.now n) }
@@ -62,7 +62,7 @@ fn opening(shape: Shape) -> &'static [u8]
     ensures { result.now ≡ text.opening shape }
 {
     match shape {
-        Shape::Map { .. } => b"{",
+        Shape::Map { .. } | Shape::BiMap => b"{",
         _ => b"[",
     }
 }
@@ -72,7 +72,7 @@ fn closing(shape: Shape) -> &'static [u8]
     ensures { result.now ≡ text.closing shape }
 {
     match shape {
-        Shape::Map { .. } => b"}",
+        Shape::Map { .. } | Shape::BiMap => b"}",
         _ => b"]",
     }
 }

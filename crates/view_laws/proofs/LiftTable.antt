@@ -21,7 +21,7 @@ use Rattle.vocabulary.specs.Items.{swapped, with_part}
 use Rattle.vocabulary.specs.Steps.{along, family_of, flags_after, is_columns, item_of, lifted, passes, without_adding, without_iterating}
 use Rattle.view_laws.specs.RowForm.{IsUndone, has_room}
 
-twice_swapped : (item : Item) → swapped (swapped item) ≡ item
+pub twice_swapped : (item : Item) → swapped (swapped item) ≡ item
 twice_swapped (One x) = refl
 twice_swapped (Entry k v) = refl
 twice_swapped (Counted x n) = refl

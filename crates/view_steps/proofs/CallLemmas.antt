@@ -1,5 +1,5 @@
 -- Known calls on known views: what may refuse them, and what they leave of the base.
-use Rattle.std.proofs.Common.{◌≡◌, true, false, cond, ◌&&◌, List, [], ◌∷◌, refl, ap, ◌∙◌}
+use Rattle.std.proofs.Common.{◌≡◌, ℕ, true, false, cond, ◌&&◌, List, [], ◌∷◌, refl, ap, ◌∙◌}
 use Rattle.std.specs.Prelude.{Option, Some, None, Err, option_map}
 use Rattle.vocabulary.specs.declared.answers.Answer.{Answer}
 use Rattle.vocabulary.specs.declared.calls.Ask.TheVariants.{Clear}
@@ -8,6 +8,7 @@ use Rattle.vocabulary.specs.declared.calls.Call.TheVariants as call
 use Rattle.vocabulary.specs.declared.calls.OnElement.TheVariants.{RemoveGroup}
 use Rattle.vocabulary.specs.declared.calls.OnOther.{OnOther}
 use Rattle.vocabulary.specs.declared.calls.OnOther.TheVariants.{AddSpans, RemoveSpans}
+use Rattle.vocabulary.specs.declared.edits.Spot.{Spot}
 use Rattle.vocabulary.specs.declared.items.Item.{Item}
 use Rattle.vocabulary.specs.declared.kinds.Kind.{Kind}
 use Rattle.vocabulary.specs.declared.refusals.Refusal.{Refusal}
@@ -15,20 +16,24 @@ use Rattle.vocabulary.specs.declared.refusals.Refusal.TheVariants.{IllegalArgume
 use Rattle.vocabulary.specs.declared.shapes.Shape.{Shape}
 use Rattle.vocabulary.specs.declared.shapes.Shape.TheVariants as shape
 use Rattle.vocabulary.specs.Known.{form_of_call, is_known_call, is_known_kind, is_known_other}
+use Rattle.vocabulary.specs.Kinds.{shape_of_kind}
 use Rattle.vocabulary.specs.Needs.{needs_of, needs_with}
-use Rattle.vocabulary.specs.Shapes.{is_ranges}
+use Rattle.vocabulary.specs.Shapes.{is_bimap, is_ranges}
 use Rattle.machine.specs.Answering.{answer_at, answered, answered_with, carried_out, unless_refused, within_rows}
 use Rattle.machine.specs.Answers.{answer_of, answer_with}
 use Rattle.machine.specs.Bases.{Base, World}
 use Rattle.machine.specs.CallEdits.{change_by, change_of, change_with, edit_of, edit_with, reach_of, reaches_with, writes_of}
 use Rattle.machine.specs.CallRefusals.{call_refusal, flag_refusal, items_lifted, items_lifted_with, lift_refusal, reach_refusal, reaches_refusal, refusal_with, test_refusal}
-use Rattle.machine.specs.Edits.{Coming, Edit, an_edit, takes_all, takes_change, with_coming, without_rows, world_after}
+use Rattle.machine.specs.Edits.{Coming, Edit, adding, an_edit, removing, takes_all, takes_change, with_coming, without_rows, world_after}
+use Rattle.machine.specs.Placing.{takes_row}
 use Rattle.machine.specs.Reaching.{cleared}
 use Rattle.machine.specs.Reading.{first_refusal, reading_refusal}
 use Rattle.machine.specs.Views.{View, base_under, flags_at, root, shape_at, shown}
 use Rattle.view_steps.specs.KnownViews.{edited_at, is_known_view, number_under}
+use Rattle.view_steps.proofs.EditedRows.{without_none}
 use Rattle.view_steps.proofs.KindLemmas.{takes_each}
 use Rattle.view_steps.proofs.KnownLemmas.{is_known_shape, is_read, known_base, known_shape}
+use Rattle.view_steps.proofs.ListLemmas.{and-true}
 
 -- ---- refusals
 
@@ -87,18 +92,26 @@ change_is_edit_with world v AddSpans others known = absurd (cc)
 change_is_edit_with world v RemoveSpans others known = absurd (cc)
 change_is_edit_with world v _ others known = refl
 
-all_taken : (kind : Kind) → is_known_kind kind ≡ true → (rows : List Item) (added : List Coming) → takes_all kind rows added ≡ true
-all_taken kind known rows [] = refl
-all_taken kind known rows (new ∷ added) =
-    ap (λ b. b && takes_all kind (with_coming kind rows new) added) (takes_each kind known new.0 rows new.1) ∙ all_taken kind known (with_coming kind rows new) added
+all_taken : (kind : Kind) → is_known_kind kind ≡ true → is_bimap (shape_of_kind kind) ≡ false → (rows : List Item) (added : List Coming) → takes_all kind rows added ≡ true
+all_taken kind known one rows [] = refl
+all_taken kind known one rows (new ∷ added) =
+    ap (λ b. b && takes_all kind (with_coming kind rows new) added) (takes_each kind known one new.0 rows new.1) ∙ all_taken kind known one (with_coming kind rows new) added
 
--- a base of a known kind takes every edit
-pub takes_edits : (it : Base) → is_known_kind it.kind ≡ true → (edit : Edit) → takes_change it (an_edit edit) ≡ true
-takes_edits it known edit = all_taken it.kind known (without_rows edit.gone 0 it.rows) edit.added
+-- a base of a known kind takes every edit, unless it is a bimap
+pub takes_edits : (it : Base) → is_known_kind it.kind ≡ true → is_bimap (shape_of_kind it.kind) ≡ false → (edit : Edit) → takes_change it (an_edit edit) ≡ true
+takes_edits it known one edit = all_taken it.kind known one (without_rows edit.gone 0 it.rows) edit.added
 
-pub carried : (world : World) (v : View) → is_known_kind (root world v).kind ≡ true → (answer : Answer) (edit : Edit) → carried_out world v answer (Some (an_edit edit)) ≡ within_rows answer (edited_at world (number_under v) edit)
-carried world v kind answer edit =
-    ap (λ b. cond b (within_rows answer (world_after world (base_under v).number (an_edit edit))) (Err IllegalArgument)) (takes_edits (root world v) kind edit)
+-- a base takes the edit that adds a row where it takes that row
+pub takes_one : (it : Base) (spot : Spot) (row : Item) → takes_change it (an_edit (adding spot (row ∷ []))) ≡ takes_row it.kind spot it.rows row
+takes_one it spot row = and-true (takes_row it.kind spot (without_rows [] 0 it.rows) row) ∙ ap (λ (rows : List Item). takes_row it.kind spot rows row) (without_none 0 it.rows)
+
+-- and each base every removal
+pub takes_removals : (it : Base) (gone : List ℕ) → takes_change it (an_edit (removing gone)) ≡ true
+takes_removals it gone = refl
+
+-- an edit that a base takes is carried out
+pub carried : (world : World) (v : View) (answer : Answer) (edit : Edit) → takes_change (root world v) (an_edit edit) ≡ true → carried_out world v answer (Some (an_edit edit)) ≡ within_rows answer (edited_at world (number_under v) edit)
+carried world v answer edit taken = ap (λ b. cond b (within_rows answer (world_after world (base_under v).number (an_edit edit))) (Err IllegalArgument)) taken
 
 -- ---- answers
 

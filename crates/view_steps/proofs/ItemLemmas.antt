@@ -11,8 +11,6 @@ use Rattle.vocabulary.specs.declared.kinds.Kind.TheVariants as kinds
 use Rattle.vocabulary.specs.declared.shapes.RowSort.TheVariants as rows
 use Rattle.vocabulary.specs.declared.shapes.Shape.{Shape}
 use Rattle.vocabulary.specs.declared.shapes.Shape.TheVariants as shape
-use Rattle.vocabulary.specs.declared.steps.ChangeStep.TheVariants.{Transform, TransformValues, AsMap}
-use Rattle.vocabulary.specs.declared.steps.FilterStep.TheVariants.{Filter, FilterKeys, FilterValues}
 use Rattle.vocabulary.specs.declared.steps.PlainStep.TheVariants.{Reverse, KeySet, Values, EntrySet, Keys, Descending, Inverse, Transpose, ForMap, Unmodifiable}
 use Rattle.vocabulary.specs.declared.steps.Step.{Step}
 use Rattle.vocabulary.specs.declared.steps.Step.TheVariants as step
@@ -20,6 +18,7 @@ use Rattle.machine.specs.Shown.{has_key, is_shown}
 use Rattle.vocabulary.specs.Shapes.{is_elements, is_map}
 use Rattle.vocabulary.specs.Fits.{is_entries}
 use Rattle.vocabulary.specs.Kinds.{shape_of_kind}
+use Rattle.view_laws.specs.ItemForms.{has_form}
 use Rattle.view_laws.specs.Lanes.{turned_if}
 use Rattle.view_laws.specs.RowForm.{RowForm, form_over}
 use Rattle.vocabulary.specs.StepShapes.{apply}
@@ -28,6 +27,8 @@ use Rattle.vocabulary.specs.Items.{same_item}
 use Rattle.vocabulary.specs.Known.{is_known_kind}
 use Rattle.machine.specs.Views.{shape_after}
 use Rattle.view_steps.specs.KnownViews.{is_known}
+use Rattle.view_steps.proofs.FormedLemmas.{item_formed}
+use Rattle.view_steps.proofs.KnownLemmas.{is_known_shape, shape_over}
 
 -- a view of a known shape shows elements, or entries
 abbrev pub IsItemIn : Shape → Item → Type 0
@@ -36,6 +37,7 @@ IsItemIn (shape.Set sorted) (One x) = Unit {0}
 IsItemIn shape.Coll (One x) = Unit {0}
 IsItemIn (shape.Rows rows.Entry) (Entry k w) = Unit {0}
 IsItemIn (shape.Map sorted) (Entry k w) = Unit {0}
+IsItemIn shape.BiMap (Entry k w) = Unit {0}
 IsItemIn of item = ⊥
 
 abbrev pub Each : (Item → Type 0) → List Item → Type 0
@@ -58,44 +60,29 @@ pub no_entries : (kind : Kind) → is_known_kind kind ≡ true → is_entries (s
 no_entries (kinds.Rows sort) h = absurd (cc)
 no_entries _ h = refl
 
+-- such an item has the form of the shape, which is known, and what has it is one
+item_form : (of : Shape) (item : Item) → IsItemIn of item → (is_known_shape of ≡ true) × (has_form of item ≡ true)
+item_form shape.List (One x) h = (refl, refl)
+item_form (shape.Set sorted) (One x) h = (refl, refl)
+item_form shape.Coll (One x) h = (refl, refl)
+item_form (shape.Rows rows.Entry) (Entry k w) h = (refl, refl)
+item_form (shape.Map sorted) (Entry k w) h = (refl, refl)
+item_form shape.BiMap (Entry k w) h = (refl, refl)
+item_form _ _ h = absurd h
+
+form_item : (of : Shape) (item : Item) → is_known_shape of ≡ true → has_form of item ≡ true → IsItemIn of item
+form_item shape.List (One x) known h = tt
+form_item (shape.Set sorted) (One x) known h = tt
+form_item shape.Coll (One x) known h = tt
+form_item (shape.Rows rows.Entry) (Entry k w) known h = tt
+form_item (shape.Map sorted) (Entry k w) known h = tt
+form_item shape.BiMap (Entry k w) known h = tt
+form_item _ _ known h = absurd (cc)
+
 pub step_item : (of : Shape) (it : Step) → is_known it ≡ true → (item : Item) → IsSome (apply of it) → IsItemIn of item → IsItemIn (shape_after of (apply of it)) (item_of it item)
-step_item shape.List (step.Plain Reverse) known (One x) given h = tt
-step_item shape.List (step.Plain Unmodifiable) known (One x) given h = tt
-step_item shape.List (step.Change Transform f) known (One x) given h = tt
-step_item shape.List (step.Filter Filter p) known (One x) given h = tt
-step_item shape.List it known (One x) given h = absurd (cc)
-step_item shape.List it known item given h = absurd h
-step_item shape.Coll (step.Plain Unmodifiable) known (One x) given h = tt
-step_item shape.Coll (step.Change Transform f) known (One x) given h = tt
-step_item shape.Coll (step.Filter Filter p) known (One x) given h = tt
-step_item shape.Coll it known (One x) given h = absurd (cc)
-step_item shape.Coll it known item given h = absurd h
-step_item (shape.Set sorted) (step.Plain Unmodifiable) known (One x) given h = tt
-step_item (shape.Set true) (step.Plain Descending) known (One x) given h = tt
-step_item (shape.Set false) (step.Plain Descending) known (One x) given h = absurd (cc)
-step_item (shape.Set sorted) (step.Change Transform f) known (One x) given h = tt
-step_item (shape.Set sorted) (step.Change AsMap f) known (One x) given h = tt
-step_item (shape.Set sorted) (step.Filter Filter p) known (One x) given h = tt
-step_item (shape.Set true) (step.Within order w) known (One x) given h = tt
-step_item (shape.Set false) (step.Within order w) known (One x) given h = absurd (cc)
-step_item (shape.Set sorted) it known (One x) given h = absurd (cc)
-step_item (shape.Set sorted) it known item given h = absurd h
-step_item (shape.Map sorted) (step.Plain KeySet) known (Entry k w) given h = tt
-step_item (shape.Map sorted) (step.Plain Values) known (Entry k w) given h = tt
-step_item (shape.Map sorted) (step.Plain EntrySet) known (Entry k w) given h = tt
-step_item (shape.Map sorted) (step.Plain Unmodifiable) known (Entry k w) given h = tt
-step_item (shape.Map true) (step.Plain Descending) known (Entry k w) given h = tt
-step_item (shape.Map false) (step.Plain Descending) known (Entry k w) given h = absurd (cc)
-step_item (shape.Map sorted) (step.Change TransformValues f) known (Entry k w) given h = tt
-step_item (shape.Map sorted) (step.Filter FilterKeys p) known (Entry k w) given h = tt
-step_item (shape.Map sorted) (step.Filter FilterValues p) known (Entry k w) given h = tt
-step_item (shape.Map sorted) (step.FilterPairs q) known (Entry k w) given h = tt
-step_item (shape.Map true) (step.Within order win) known (Entry k w) given h = tt
-step_item (shape.Map false) (step.Within order win) known (Entry k w) given h = absurd (cc)
-step_item (shape.Map sorted) it known (Entry k w) given h = absurd (cc)
-step_item (shape.Map sorted) it known item given h = absurd h
-step_item (shape.Rows sort) it known item given h = absurd (cc)
-step_item _ it known item given h = absurd h
+step_item of it known item given h =
+    let below = item_form of item h in
+    form_item (shape_after of (apply of it)) (item_of it item) (shape_over of it below.0 known) (item_formed of it known given below.0 item below.1)
 
 -- what a form makes of a row, over a step
 pub item_over : (it : Step) (f : RowForm) (row : Item) → (form_over (family_of it) it f).item row ≡ item_of it (f.item row)
@@ -142,6 +129,7 @@ an_element _ item h i = absurd (cc)
 
 pub an_entry : (of : Shape) (item : Item) → is_map of ≡ true → IsItemIn of item → IsEntry item
 an_entry (shape.Map sorted) (Entry k w) h i = record { key = k; value = w; same = refl }
+an_entry shape.BiMap (Entry k w) h i = record { key = k; value = w; same = refl }
 an_entry (shape.Map sorted) item h i = absurd i
 an_entry shape.BiMap item h i = absurd i
 an_entry _ item h i = absurd (cc)

@@ -1,6 +1,6 @@
 -- The candidates of a key: one at most, found from the row of the base that has it.
 use Rattle.std.proofs.Common.{◌≡◌, Bool, true, false, cond, ◌&&◌, ◌||◌, List, [], ◌∷◌, map, refl, ap, sym, ◌∙◌, subst}
-use Rattle.std.specs.Prelude.{nat_eq, filter, find, slice_get, Option, Some, None, option_map, is_some}
+use Rattle.std.specs.Prelude.{nat_eq, filter, find, slice_get, Option, Some, None, is_some}
 use Rattle.std.specs.List.{IsDistinct, AllByRecursion, list_any}
 use Rattle.std.specs.Option.{option_to_list}
 use Rattle.elem.specs.declared.elements.Elem.{Elem}

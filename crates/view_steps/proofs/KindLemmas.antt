@@ -26,13 +26,14 @@ no_bag TreeMultisetReverse h = absurd (cc)
 no_bag TreeMultisetLength h = absurd (cc)
 no_bag _ h = refl
 
--- a base of a known kind has so many rows
-pub counts_rows : (it : Base) → is_known_kind it.kind ≡ true → rows_of it ≡ length it.rows
-counts_rows it h = ap (λ b. cond b (length (each_once (map key_of it.rows))) (length it.rows)) (no_bag it.kind h)
-
+-- no known kind is that of a bimap
 pub no_bimap : (kind : Kind) → is_known_kind kind ≡ true → is_bimap (shape_of_kind kind) ≡ false
 no_bimap HashBiMap h = absurd (cc)
 no_bimap _ h = refl
+
+-- a base of a known kind has so many rows
+pub counts_rows : (it : Base) → is_known_kind it.kind ≡ true → rows_of it ≡ length it.rows
+counts_rows it h = ap (λ b. cond b (length (each_once (map key_of it.rows))) (length it.rows)) (no_bag it.kind h)
 
 no_groups : (kind : Kind) → is_known_kind kind ≡ true → groups_rows kind ≡ false
 no_groups LinkedHashMultiset h = absurd (cc)
@@ -44,18 +45,18 @@ no_groups _ h = refl
 pub no_follower : (kind : Kind) → is_known_kind kind ≡ true → (new old : Item) (others : List Item) → follows kind new old others ≡ false
 no_follower kind h new old others = rw (no_groups kind h) refl
 
--- a known kind takes every row
-pub takes_each : (kind : Kind) → is_known_kind kind ≡ true → (spot : Spot) (rows : List Item) (new : Item) → takes_row kind spot rows new ≡ true
-takes_each ArrayList h spot rows new = refl
-takes_each LinkedHashSet h spot rows new = refl
-takes_each TreeSet h spot rows new = refl
-takes_each TreeSetReverse h spot rows new = refl
-takes_each TreeSetLength h spot rows new = refl
-takes_each LinkedHashMap h spot rows new = refl
-takes_each TreeMap h spot rows new = refl
-takes_each TreeMapReverse h spot rows new = refl
-takes_each TreeMapLength h spot rows new = refl
-takes_each _ h spot rows new = absurd (cc)
+-- a known kind takes every row, unless it is that of a bimap
+pub takes_each : (kind : Kind) → is_known_kind kind ≡ true → is_bimap (shape_of_kind kind) ≡ false → (spot : Spot) (rows : List Item) (new : Item) → takes_row kind spot rows new ≡ true
+takes_each ArrayList h one spot rows new = refl
+takes_each LinkedHashSet h one spot rows new = refl
+takes_each TreeSet h one spot rows new = refl
+takes_each TreeSetReverse h one spot rows new = refl
+takes_each TreeSetLength h one spot rows new = refl
+takes_each LinkedHashMap h one spot rows new = refl
+takes_each TreeMap h one spot rows new = refl
+takes_each TreeMapReverse h one spot rows new = refl
+takes_each TreeMapLength h one spot rows new = refl
+takes_each _ h one spot rows new = absurd (cc)
 
 -- a row of a known kind takes the place of that of its key, where the kind goes by key
 pub replaces_by_key : (kind : Kind) → is_known_kind kind ≡ true → (new old : Item) → replaces kind new old ≡ (is_keyed (shape_of_kind kind) && same (key_of new) (key_of old))
@@ -68,6 +69,7 @@ replaces_by_key LinkedHashMap h new old = refl
 replaces_by_key TreeMap h new old = refl
 replaces_by_key TreeMapReverse h new old = refl
 replaces_by_key TreeMapLength h new old = refl
+replaces_by_key HashBiMap h new old = refl
 replaces_by_key _ h new old = absurd (cc)
 
 -- and stands before the first that it precedes by key, where the kind is sorted
@@ -82,4 +84,5 @@ precedes_by_key LinkedHashMap h new old = refl
 precedes_by_key TreeMap h new old = refl
 precedes_by_key TreeMapReverse h new old = refl
 precedes_by_key TreeMapLength h new old = refl
+precedes_by_key HashBiMap h new old = refl
 precedes_by_key _ h new old = absurd (cc)

@@ -1,13 +1,13 @@
 -- Known views: they stand on one base, go row by row, and have nothing on their way that a base refuses.
 use Rattle.std.proofs.Common.{◌≡◌, Bool, true, false, cond, List, [], ◌∷◌, refl, ap, ◌∙◌}
-use Rattle.std.specs.Prelude.{Option, Some, None}
+use Rattle.std.specs.Prelude.{not, Option, Some, None}
 use Rattle.vocabulary.specs.declared.edits.Spot.TheVariants.{Own}
 use Rattle.vocabulary.specs.declared.items.Item.{Item}
 use Rattle.vocabulary.specs.declared.leaves.LeafStep.{LeafStep}
 use Rattle.vocabulary.specs.declared.step_table.Family.{Family}
 use Rattle.vocabulary.specs.declared.step_table.Family.TheVariants.{Same, Changed, Turned, Keyed, Hidden, Cut, Grouped, Run, Pieces}
 use Rattle.vocabulary.specs.declared.kinds.Kind.{Kind}
-use Rattle.vocabulary.specs.declared.kinds.Kind.TheVariants.{ArrayList, LinkedHashSet, TreeSet, TreeSetReverse, TreeSetLength, LinkedHashMap, TreeMap, TreeMapReverse, TreeMapLength}
+use Rattle.vocabulary.specs.declared.kinds.Kind.TheVariants.{ArrayList, LinkedHashSet, TreeSet, TreeSetReverse, TreeSetLength, LinkedHashMap, TreeMap, TreeMapReverse, TreeMapLength, HashBiMap}
 use Rattle.vocabulary.specs.declared.shapes.RowSort.TheVariants as rows
 use Rattle.vocabulary.specs.declared.shapes.Shape.{Shape}
 use Rattle.vocabulary.specs.declared.shapes.Shape.TheVariants as shape
@@ -16,9 +16,10 @@ use Rattle.vocabulary.specs.declared.steps.FilterStep.TheVariants as filter
 use Rattle.vocabulary.specs.declared.steps.PlainStep.TheVariants.{Reverse, KeySet, Values, EntrySet, Keys, Descending, Inverse, Transpose, ForMap, Unmodifiable}
 use Rattle.vocabulary.specs.declared.steps.Step.{Step}
 use Rattle.vocabulary.specs.declared.steps.Step.TheVariants.{Plain, Filter, FilterPairs, Change, Within, At, Group, Sub, Partition, Piece}
+use Rattle.vocabulary.specs.Items.{swapped}
 use Rattle.vocabulary.specs.Kinds.{shape_of_kind}
 use Rattle.vocabulary.specs.Known.{is_known_kind}
-use Rattle.vocabulary.specs.StepShapes.{apply, on_coll, on_list, on_map, on_set, where_sorted}
+use Rattle.vocabulary.specs.StepShapes.{apply, on_bimap, on_coll, on_list, on_map, on_set, where_sorted}
 use Rattle.vocabulary.specs.Steps.{family_of, form_of_step, lifted, passes, steps_in}
 use Rattle.machine.specs.Bases.{Base, World, base_at}
 use Rattle.machine.specs.KeyOrders.{KeyOrder}
@@ -117,13 +118,14 @@ known_by_row world (both word v u) h = absurd (cc)
 
 -- ---- the shapes of known views of known bases
 
--- the shapes of lists, sets and maps, and of their views
+-- the shapes of lists, sets, maps and bimaps, and of their views
 abbrev pub is_known_shape : Shape → Bool
 is_known_shape shape.List = true
 is_known_shape (shape.Set sorted) = true
 is_known_shape shape.Coll = true
 is_known_shape (shape.Rows rows.Entry) = true
 is_known_shape (shape.Map sorted) = true
+is_known_shape shape.BiMap = true
 is_known_shape other = false
 
 kind_shape : (kind : Kind) → is_known_kind kind ≡ true → is_known_shape (shape_of_kind kind) ≡ true
@@ -136,6 +138,7 @@ kind_shape LinkedHashMap h = refl
 kind_shape TreeMap h = refl
 kind_shape TreeMapReverse h = refl
 kind_shape TreeMapLength h = refl
+kind_shape HashBiMap h = refl
 kind_shape _ h = absurd (cc)
 
 where_known : (sorted : Bool) (of : Shape) → is_known_shape of ≡ true → is_known_shape (shape_after of (where_sorted sorted of)) ≡ true
@@ -179,16 +182,23 @@ map_after sorted (FilterPairs q) h = refl
 map_after sorted (Change TransformValues f) h = refl
 map_after sorted _ h = refl
 
-shape_over : (of : Shape) (step : Step) → is_known_shape of ≡ true → is_known step ≡ true → is_known_shape (shape_after of (apply of step)) ≡ true
+bimap_after : (step : Step) → is_known step ≡ true → is_known_shape (shape_after shape.BiMap (on_bimap (form_of_step step))) ≡ true
+bimap_after (Plain ForMap) h = absurd (cc)
+bimap_after (Filter filter.FilterKeys p) h = refl
+bimap_after (Change TransformValues f) h = refl
+bimap_after _ h = refl
+
+pub shape_over : (of : Shape) (step : Step) → is_known_shape of ≡ true → is_known step ≡ true → is_known_shape (shape_after of (apply of step)) ≡ true
 shape_over shape.List step known h = list_after step h
 shape_over (shape.Set sorted) step known h = set_after sorted step
 shape_over shape.Coll step known h = coll_after step
 shape_over (shape.Rows rows.Entry) step known h = refl
 shape_over (shape.Map sorted) step known h = map_after sorted step h
+shape_over shape.BiMap step known h = bimap_after step h
 shape_over (shape.Rows sort) step known h = absurd (cc)
 shape_over _ step known h = absurd (cc)
 
--- a known view of a base of a known kind is a list, a set, a map, or a view of their elements or entries
+-- a known view of a base of a known kind is a list, a set, a map, a bimap, or a view of their elements or entries
 pub known_shape : (world : World) (v : View) → is_known_view v ≡ true → is_known_kind (leaf_at world (base_under v)).kind ≡ true → is_known_shape (shape_at world v) ≡ true
 known_shape world (base l) h kind = kind_shape (leaf_at world l).kind kind
 known_shape world (over step v) h kind =
@@ -229,8 +239,16 @@ one_step (At side k n) h = absurd (cc)
 one_step (Piece n s) h = absurd (cc)
 one_step _ h = refl
 
-pub is_lifted : (step : Step) (item : Item) → is_known step ≡ true → lifted step item ≡ cond (passes step item) (Some item) None
-is_lifted (Plain Inverse) item h = absurd (cc)
+-- whether a step exchanges the parts of each item
+abbrev pub exchanges : Step → Bool
+exchanges (Plain Inverse) = true
+exchanges step = false
+
+abbrev pub exchanged : Bool → Item → Item
+exchanged t item = cond t (swapped item) item
+
+-- what a known step makes of an added item on its way down
+pub is_lifted : (step : Step) (item : Item) → is_known step ≡ true → lifted step item ≡ cond (passes step item) (Some (exchanged (exchanges step) item)) None
 is_lifted (Plain Transpose) item h = absurd (cc)
 is_lifted (At side k n) item h = absurd (cc)
 is_lifted _ item h = refl
@@ -251,17 +269,23 @@ has_all_room (over step v) item h =
     down rest (Some below) k = rest below k
 has_all_room (both word v u) item h = refl
 
-step_swaps : (step : Step) (v : View) → is_known step ≡ true → is_swapped (over step v) ≡ is_swapped v
-step_swaps (Plain Inverse) v h = absurd (cc)
-step_swaps _ v h = refl
+-- where a step exchanges them, they stand the other way round
+pub step_swaps : (step : Step) (v : View) → is_swapped (over step v) ≡ cond (exchanges step) (not (is_swapped v)) (is_swapped v)
+step_swaps (Plain Inverse) v = refl
+step_swaps _ v = refl
 
-never_swapped : (v : View) → is_known_view v ≡ true → is_swapped v ≡ false
-never_swapped (base l) h = refl
-never_swapped (over step v) h =
+no_exchange : (step : Step) → is_known step ≡ true → exchanges step ≡ false
+no_exchange (Plain Inverse) h = absurd (cc)
+no_exchange _ h = refl
+
+-- no known step exchanges keys and values
+pub not_swapped : (v : View) → is_known_view v ≡ true → is_swapped v ≡ false
+not_swapped (base l) h = refl
+not_swapped (over step v) h =
     let parts = known_over step v h in
-    step_swaps step v parts.0 ∙ never_swapped v parts.1
-never_swapped (both word v u) h = refl
+    step_swaps step v ∙ ap (λ b. cond b (not (is_swapped v)) (is_swapped v)) (no_exchange step parts.0) ∙ not_swapped v parts.1
+not_swapped (both word v u) h = refl
 
--- a row goes where its base puts it
-pub goes_by_itself : (v : View) → is_known_view v ≡ true → own_spot v ≡ Own
-goes_by_itself v h = rw (never_swapped v h) refl
+-- where they stand as in the base, a row goes where its base puts it
+pub goes_by_itself : (v : View) → is_swapped v ≡ false → own_spot v ≡ Own
+goes_by_itself v h = rw h refl

@@ -1,21 +1,22 @@
--- Lanes by key come down to the base of a view whose steps are known, and the base serves them.
+-- Lanes that ask of one part come down to the base of a view whose steps are known, and the base serves them.
 use Rattle.std.proofs.Common.{◌≡◌, Bool, true, false, cond, ◌&&◌, refl, ap, sym, ◌∙◌, subst}
-use Rattle.std.specs.Prelude.{not, Option, Some, None, option_map}
+use Rattle.std.specs.Prelude.{Option, Some, None, option_map}
 use Rattle.std.specs.Option.{option_and_then}
+use Rattle.std.proofs.lemmas.Option.{same_Some}
 use Rattle.elem.specs.declared.elements.Elem.{Elem}
 use Rattle.elem.specs.declared.windows.Window.{Window}
+use Rattle.vocabulary.specs.declared.items.Side.{Side}
+use Rattle.vocabulary.specs.declared.items.Side.TheVariants.{First, Second}
 use Rattle.vocabulary.specs.declared.orders.Order.{Order}
-use Rattle.vocabulary.specs.declared.items.Side.TheVariants.{Second}
 use Rattle.vocabulary.specs.declared.shapes.Shape.{Shape}
-use Rattle.vocabulary.specs.declared.shapes.Shape.TheVariants as shape
-use Rattle.vocabulary.specs.declared.shapes.RowSort.TheVariants as rows
-use Rattle.vocabulary.specs.declared.steps.ChangeStep.TheVariants.{Transform, TransformValues, AsMap}
-use Rattle.vocabulary.specs.declared.steps.PlainStep.TheVariants.{Reverse, KeySet, Values, EntrySet, Descending, Unmodifiable}
+use Rattle.vocabulary.specs.declared.step_table.Family.{Family}
+use Rattle.vocabulary.specs.declared.step_table.Family.TheVariants.{Same, Changed, Turned, Keyed, Hidden, Cut, Grouped, Run, Pieces}
 use Rattle.vocabulary.specs.declared.steps.Step.{Step}
 use Rattle.vocabulary.specs.declared.steps.Step.TheVariants as step
 use Rattle.vocabulary.specs.Known.{is_known_kind}
 use Rattle.vocabulary.specs.Orders.{upto, encloses, lies_in, same_order}
-use Rattle.vocabulary.specs.Shapes.{is_keyed, is_sorted}
+use Rattle.vocabulary.specs.Shapes.{is_sorted}
+use Rattle.vocabulary.specs.Steps.{family_of}
 use Rattle.machine.specs.Bases.{World}
 use Rattle.machine.specs.KeptSteps.{order_at, window_at}
 use Rattle.machine.specs.Leaves.{Leaf, leaf_at}
@@ -27,109 +28,210 @@ use Rattle.view_laws.specs.declared.lanes.PartAsk.{PartAsk}
 use Rattle.view_laws.specs.declared.lanes.PartAsk.TheVariants.{Any, Is, Within, Nothing}
 use Rattle.view_laws.specs.GroupOrders.{group_order_at}
 use Rattle.view_laws.specs.LanesDown.{lane_down}
-use Rattle.view_laws.specs.Narrowing.{asking, both_asks, flipped, moved, with_first}
-use Rattle.view_laws.specs.ShapeNarrowing.{may_have_cells, narrow_on}
-use Rattle.view_laws.specs.Serving.{ServesKeys}
+use Rattle.view_laws.specs.Narrowing.{asked_by, asking, asks_moved, both_asks, flipped, moved, narrow, narrow_in, source_of, with_ask, with_first}
+use Rattle.view_laws.specs.ShapeNarrowing.{narrow_on, tells_on, told_if_asked}
+use Rattle.view_laws.specs.Serving.{ServesPart, is_unique}
+use Rattle.view_steps.specs.KnownLanes.{part_below, part_from}
 use Rattle.view_steps.specs.KnownViews.{is_known, is_known_view}
-use Rattle.view_steps.proofs.KnownLemmas.{is_known_shape, known_over, known_shape}
-use Rattle.view_steps.proofs.KeptKeys.{KeepsKeys, keyed_down, sorted_down, sorted_keyed, window_sorted}
+use Rattle.view_laws.proofs.LiftTable.{leaves_items}
+use Rattle.view_steps.proofs.AskTable.{asks_none, leaves_out, own_ask, own_asked, source_kept}
+use Rattle.view_steps.proofs.KnownLemmas.{is_known_shape, is_plain, known_family, known_over, known_shape}
+use Rattle.view_steps.proofs.UniqueParts.{PartFrom, first_told, part_down, part_from_below, sorted_down, sorted_first, sorted_keyed, window_sorted}
 use Rattle.view_steps.proofs.WindowLemmas.{same_order-refl, encloses-chain}
 
--- what asks of the keys alone
-abbrev pub of_keys : PartAsk → Lane
-of_keys ask = asking ask Any
+-- the lane that asks this of a part; what asks for nothing asks it of the keys
+abbrev pub of_ask : Side → PartAsk → Lane
+of_ask First ask = asking ask Any
+of_ask Second Any = asking Any Any
+of_ask Second Nothing = asking Nothing Any
+of_ask Second (Is x) = asking Any (Is x)
+of_ask Second (Within order w) = asking Any (Within order w)
 
--- what may be asked of the keys of a view: one where no two items have the same, a window where it is sorted
-abbrev pub HasAsk : World → View → PartAsk → Type 0
-HasAsk world v Any = Unit {0}
-HasAsk world v (Is k) = is_keyed (shape_at world v) ≡ true
-HasAsk world v (Within order w) = (is_sorted (shape_at world v) ≡ true) × (order ≡ order_at world v) × (upto order w.lo w.hi ≡ true) × (encloses order (window_at v) w ≡ true)
-HasAsk world v Nothing = Unit {0}
+-- ---- below one step: what is asked above, moved, and what the step asks
 
--- what asks for a key, or for nothing
-abbrev pub IsOfKey : Elem → PartAsk → Type 0
-IsOfKey k Any = ⊥
-IsOfKey k (Is l) = k ≡ l
-IsOfKey k (Within order w) = ⊥
-IsOfKey k Nothing = Unit {0}
+-- a lane that asks of the keys stays where each part is that below
+lane_stays : (ask : PartAsk) → asks_moved (Some First) (Some Second) (asking ask Any) (asking Any Any) ≡ Some (asking ask Any)
+lane_stays Any = refl
+lane_stays (Is x) = refl
+lane_stays (Within order w) = refl
+lane_stays Nothing = refl
 
--- ---- one step down
+abbrev below_step : Step → Lane → Option Lane
+below_step it lane = asks_moved (source_of it First) (source_of it Second) lane (asked_by it)
 
-pub record AskBelow (world : World) (it : Step) (v : View) (order : GroupOrder) (ask : PartAsk) : Type 0 where
+kept_out : (family : Family) → leaves_items family ≡ true → leaves_out family ≡ false
+kept_out Same h = refl
+kept_out Turned h = refl
+kept_out Hidden h = refl
+kept_out _ h = absurd (cc)
+
+kept_below : (it : Step) (lane : Lane) → is_known it ≡ true → leaves_items (family_of it) ≡ true → asks_moved (Some First) (Some Second) lane (asking Any Any) ≡ Some lane → Some lane ≡ below_step it lane
+kept_below it lane known leaves stays =
+    sym ((λ i. asks_moved (source_kept it First known leaves i) (source_kept it Second known leaves i) lane (asks_none it (kept_out (family_of it) leaves) i)) ∙ stays)
+
+narrowed : (order : GroupOrder) (it : Step) (a b : PartAsk) → is_known it ≡ true → asks_moved (Some First) (Some Second) (asking a b) (asking Any Any) ≡ Some (asking a b) → (family : Family) → family_of it ≡ family → is_plain family ≡ true
+    → narrow_in family order it (asking a b) ≡ below_step it (asking a b)
+narrowed order it a b known stays Same e plain = kept_below it (asking a b) known (ap leaves_items e) stays
+narrowed order it a b known stays Changed e plain = ap (asks_moved (source_of it First) (source_of it Second) (asking a b)) (sym (asks_none it (ap leaves_out e)))
+narrowed order it a b known stays Turned e plain = kept_below it (asking a b) known (ap leaves_items e) stays
+narrowed order it a b known stays Hidden e plain = kept_below it (asking a b) known (ap leaves_items e) stays
+narrowed order it a b known stays Cut e plain = refl
+narrowed order it a b known stays Keyed e plain = absurd (cc)
+narrowed order it a b known stays Grouped e plain = absurd (cc)
+narrowed order it a b known stays Run e plain = absurd (cc)
+narrowed order it a b known stays Pieces e plain = absurd (cc)
+
+narrow_known : (order : GroupOrder) (it : Step) (side : Side) (ask : PartAsk) → is_known it ≡ true → narrow order it (of_ask side ask) ≡ below_step it (of_ask side ask)
+narrow_known order it First ask known = narrowed order it ask Any known (lane_stays ask) (family_of it) refl (known_family it known)
+narrow_known order it Second Any known = narrowed order it Any Any known refl (family_of it) refl (known_family it known)
+narrow_known order it Second (Is x) known = narrowed order it Any (Is x) known refl (family_of it) refl (known_family it known)
+narrow_known order it Second (Within o w) known = narrowed order it Any (Within o w) known refl (family_of it) refl (known_family it known)
+narrow_known order it Second Nothing known = narrowed order it Nothing Any known refl (family_of it) refl (known_family it known)
+
+asks_no_more : (source : Option Side) (o : Option Lane) → option_and_then (moved source Any) o ≡ o
+asks_no_more source None = refl
+asks_no_more source (Some lane) = refl
+
+moved_one : (it : Step) (side : Side) (ask : PartAsk) → below_step it (of_ask side ask) ≡ moved (source_of it side) ask (asked_by it)
+moved_one it First ask = asks_no_more (source_of it Second) (moved (source_of it First) ask (asked_by it))
+moved_one it Second Any = refl
+moved_one it Second (Is x) = refl
+moved_one it Second (Within order w) = refl
+moved_one it Second Nothing = asks_no_more (source_of it Second) (with_ask First Nothing (asked_by it))
+
+-- where the shape below tells of the part, the step passes the lane down
+told_all : (of : Shape) (it : Step) (side : Side) (ask : PartAsk) → tells_on of it First ≡ true → tells_on of it side ≡ true → told_if_asked of it (of_ask side ask) First && told_if_asked of it (of_ask side ask) Second ≡ true
+told_all of it First Any first told = refl
+told_all of it First (Is x) first told = ap (λ b. b && true) first
+told_all of it First (Within order w) first told = ap (λ b. b && true) first
+told_all of it First Nothing first told = ap (λ b. b && true) first
+told_all of it Second Any first told = refl
+told_all of it Second (Is x) first told = told
+told_all of it Second (Within order w) first told = told
+told_all of it Second Nothing first told = ap (λ b. b && true) first
+
+step_asks : (of : Shape) (order : GroupOrder) (it : Step) (side : Side) (ask : PartAsk) → is_known it ≡ true → tells_on of it First ≡ true → tells_on of it side ≡ true
+    → narrow_on of order it (of_ask side ask) ≡ moved (source_of it side) ask (asking (own_ask it) Any)
+step_asks of order it side ask known first told =
+    ap (λ b. cond b (narrow order it (of_ask side ask)) None) (told_all of it side ask first told)
+    ∙ narrow_known order it side ask known ∙ moved_one it side ask ∙ ap (moved (source_of it side) ask) (own_asked it known)
+
+-- ---- what may be asked of a view
+
+-- one element of a part that no two items share, and a window of the keys where it is sorted
+abbrev pub HasAsk : World → View → Side → PartAsk → Type 0
+HasAsk world v side Any = Unit {0}
+HasAsk world v side (Is x) = is_unique (shape_at world v) side ≡ true
+HasAsk world v First (Within order w) = (is_sorted (shape_at world v) ≡ true) × (order ≡ order_at world v) × (upto order w.lo w.hi ≡ true) × (encloses order (window_at v) w ≡ true)
+HasAsk world v Second (Within order w) = ⊥
+HasAsk world v First Nothing = Unit {0}
+HasAsk world v Second Nothing = ⊥
+
+-- what asks for an element in a part, or for nothing
+abbrev pub IsOfPart : Side → Elem → Side → PartAsk → Type 0
+IsOfPart t x side Any = ⊥
+IsOfPart t x side (Is y) = (x ≡ y) × (side ≡ t)
+IsOfPart t x side (Within order w) = ⊥
+IsOfPart t x side Nothing = Unit {0}
+
+-- what is asked below a step
+pub record AskBelow (world : World) (it : Step) (v : View) (order : GroupOrder) (side : Side) (ask : PartAsk) : Type 0 where
+  pub part : Side
   pub below : PartAsk
-  pub down : narrow_on (shape_at world v) order it (of_keys ask) ≡ Some (of_keys below)
-  pub has : HasAsk world v below
-  pub of_key : (k : Elem) → IsOfKey k ask → IsOfKey k below
+  pub down : narrow_on (shape_at world v) order it (of_ask side ask) ≡ Some (of_ask part below)
+  pub has : HasAsk world v part below
+  pub of_part : (t : Side) (x : Elem) → IsOfPart t x side ask → IsOfPart (part_from (source_of it t) t) x part below
 
--- a step that asks the same of the keys below
-same_below : (world : World) (it : Step) (v : View) (order : GroupOrder) (ask : PartAsk) → narrow_on (shape_at world v) order it (of_keys ask) ≡ Some (of_keys ask) → HasAsk world v ask → AskBelow world it v order ask
-same_below world it v order ask down has = record { below = ask; down = down; has = has; of_key = λ k is. is }
+-- a known step on a view of a known shape
+record IsStep (world : World) (it : Step) (v : View) : Type 0 where
+  known : is_known it ≡ true
+  shape : is_known_shape (shape_at world v) ≡ true
+  above : is_known_shape (shape_at world (over it v)) ≡ true
+  on : IsStepOn world v it
 
-no_cells : (of : Shape) → is_known_shape of ≡ true → may_have_cells of ≡ false
-no_cells shape.List h = refl
-no_cells (shape.Set sorted) h = refl
-no_cells shape.Coll h = refl
-no_cells (shape.Map sorted) h = refl
-no_cells (shape.Rows rows.Entry) h = refl
-no_cells _ h = absurd (cc)
+told_first : (world : World) (it : Step) (v : View) → IsStep world it v → tells_on (shape_at world v) it First ≡ true
+told_first world it v s = first_told (shape_at world v) it s.shape s.known
 
-under_any : (world : World) (it : Step) (v : View) (order : GroupOrder) → is_known it ≡ true → is_known_shape (shape_at world v) ≡ true → IsStepOn world v it → AskBelow world it v order Any
-under_any world (step.Within o w) v order known of on =
-    record { below = Within o w; down = refl; has = (window_sorted (shape_at world v) o w of on.given, on.kept.0, on.kept.1, on.kept.2); of_key = λ k is. absurd is }
-under_any world (step.Plain Reverse) v order known of on = same_below world (step.Plain Reverse) v order Any refl tt
-under_any world (step.Plain KeySet) v order known of on = same_below world (step.Plain KeySet) v order Any refl tt
-under_any world (step.Plain Values) v order known of on = same_below world (step.Plain Values) v order Any refl tt
-under_any world (step.Plain EntrySet) v order known of on = same_below world (step.Plain EntrySet) v order Any refl tt
-under_any world (step.Plain Descending) v order known of on = same_below world (step.Plain Descending) v order Any refl tt
-under_any world (step.Plain Unmodifiable) v order known of on = same_below world (step.Plain Unmodifiable) v order Any refl tt
-under_any world (step.Filter word p) v order known of on = same_below world (step.Filter word p) v order Any refl tt
-under_any world (step.FilterPairs q) v order known of on = same_below world (step.FilterPairs q) v order Any refl tt
-under_any world (step.Change Transform f) v order known of on = same_below world (step.Change Transform f) v order Any refl tt
-under_any world (step.Change TransformValues f) v order known of on = same_below world (step.Change TransformValues f) v order Any refl tt
-under_any world (step.Change AsMap f) v order known of on = same_below world (step.Change AsMap f) v order Any refl tt
-under_any world _ v order known of on = absurd (cc)
+own_has : (world : World) (it : Step) (v : View) → IsStep world it v → HasAsk world v First (own_ask it)
+own_has world (step.Within o w) v s = (window_sorted (shape_at world v) o w s.shape s.on.given, s.on.kept.0, s.on.kept.1, s.on.kept.2)
+own_has world _ v s = tt
 
-under_nothing : (world : World) (it : Step) (v : View) (order : GroupOrder) → is_known it ≡ true → is_known_shape (shape_at world v) ≡ true → AskBelow world it v order Nothing
-under_nothing world (step.Within o w) v order known of = same_below world (step.Within o w) v order Nothing refl tt
-under_nothing world (step.Plain Values) v order known of =
-    same_below world (step.Plain Values) v order Nothing (ap (λ b. cond (not b && true) (Some (of_keys Nothing)) None) (no_cells (shape_at world v) of)) tt
-under_nothing world (step.Plain Reverse) v order known of = same_below world (step.Plain Reverse) v order Nothing refl tt
-under_nothing world (step.Plain KeySet) v order known of = same_below world (step.Plain KeySet) v order Nothing refl tt
-under_nothing world (step.Plain EntrySet) v order known of = same_below world (step.Plain EntrySet) v order Nothing refl tt
-under_nothing world (step.Plain Descending) v order known of = same_below world (step.Plain Descending) v order Nothing refl tt
-under_nothing world (step.Plain Unmodifiable) v order known of = same_below world (step.Plain Unmodifiable) v order Nothing refl tt
-under_nothing world (step.Filter word p) v order known of = same_below world (step.Filter word p) v order Nothing refl tt
-under_nothing world (step.FilterPairs q) v order known of = same_below world (step.FilterPairs q) v order Nothing refl tt
-under_nothing world (step.Change Transform f) v order known of = same_below world (step.Change Transform f) v order Nothing refl tt
-under_nothing world (step.Change TransformValues f) v order known of = same_below world (step.Change TransformValues f) v order Nothing refl tt
-under_nothing world (step.Change AsMap f) v order known of = same_below world (step.Change AsMap f) v order Nothing refl tt
-under_nothing world _ v order known of = absurd (cc)
+under_any : (world : World) (it : Step) (v : View) (order : GroupOrder) → IsStep world it v → AskBelow world it v order First Any
+under_any world it v order s = record {
+  part = First;
+  below = own_ask it;
+  down = step_asks (shape_at world v) order it First Any s.known (told_first world it v s) (told_first world it v s);
+  has = own_has world it v s;
+  of_part = λ t x is. absurd is;
+}
 
-key_in_window : (world : World) (o : Order) (w : Window) (v : View) (order : GroupOrder) (k : Elem) → is_keyed (shape_at world v) ≡ true → AskBelow world (step.Within o w) v order (Is k)
+under_nothing : (world : World) (it : Step) (v : View) (order : GroupOrder) → IsStep world it v → AskBelow world it v order First Nothing
+under_nothing world it v order s = record {
+  part = First;
+  below = Nothing;
+  down = step_asks (shape_at world v) order it First Nothing s.known (told_first world it v s) (told_first world it v s);
+  has = tt;
+  of_part = λ t x is. tt;
+}
+
+-- ---- one element
+
+-- a part of an item above comes from the part below that the table says
+is_moved : (it : Step) (side b : Side) (x : Elem) → source_of it side ≡ Some b → (t : Side) (y : Elem) → IsOfPart t y side (Is x) → IsOfPart (part_from (source_of it t) t) y b (Is x)
+is_moved it side b x from t y is = (is.0, sym (part_from_below it t b (subst (λ (s : Side). source_of it s ≡ Some b) is.1 from)))
+
+asks_element : (b : Side) (x : Elem) → with_ask b (Is x) (asking Any Any) ≡ Some (of_ask b (Is x))
+asks_element First x = refl
+asks_element Second x = refl
+
+element_moved : (world : World) (it : Step) (v : View) (order : GroupOrder) (side : Side) (x : Elem) → IsStep world it v → PartFrom (shape_at world v) it side → own_ask it ≡ Any → AskBelow world it v order side (Is x)
+element_moved world it v order side x s p none = record {
+  part = p.below;
+  below = Is x;
+  down = step_asks (shape_at world v) order it side (Is x) s.known (told_first world it v s) p.told
+      ∙ ap (λ (o : Option Side). moved o (Is x) (asking (own_ask it) Any)) p.from
+      ∙ ap (λ (a : PartAsk). with_ask p.below (Is x) (asking a Any)) none
+      ∙ asks_element p.below x;
+  has = p.unique;
+  of_part = λ t y is. is_moved it side p.below x p.from t y is;
+}
+
+-- beside a window, it is asked for where it lies in that
+key_in_window : (world : World) (o : Order) (w : Window) (v : View) (order : GroupOrder) (k : Elem) → is_unique (shape_at world v) First ≡ true → AskBelow world (step.Within o w) v order First (Is k)
 key_in_window world o w v order k keyed = by (lies_in o w k) refl
   where
-    by : (t : Bool) → lies_in o w k ≡ t → AskBelow world (step.Within o w) v order (Is k)
-    by true h = record { below = Is k; down = ap (λ t. Some (of_keys (cond t (Is k) Nothing))) h; has = keyed; of_key = λ l is. is }
-    by false h = record { below = Nothing; down = ap (λ t. Some (of_keys (cond t (Is k) Nothing))) h; has = tt; of_key = λ l is. tt }
+    by : (t : Bool) → lies_in o w k ≡ t → AskBelow world (step.Within o w) v order First (Is k)
+    by true h = record { part = First; below = Is k; down = ap (λ t. Some (of_ask First (cond t (Is k) Nothing))) h; has = keyed; of_part = λ t x is. is }
+    by false h = record { part = First; below = Nothing; down = ap (λ t. Some (of_ask First (cond t (Is k) Nothing))) h; has = tt; of_part = λ t x is. tt }
 
-under_key : (world : World) (it : Step) (v : View) (order : GroupOrder) (k : Elem) → is_known it ≡ true → (is_keyed (shape_at world v) ≡ true) × KeepsKeys it → AskBelow world it v order (Is k)
-under_key world (step.Within o w) v order k known (keyed, keeps) = key_in_window world o w v order k keyed
-under_key world (step.Plain Values) v order k known (keyed, keeps) = absurd keeps
-under_key world (step.Change Transform f) v order k known (keyed, keeps) = absurd keeps
-under_key world (step.Plain Reverse) v order k known (keyed, keeps) = same_below world (step.Plain Reverse) v order (Is k) refl keyed
-under_key world (step.Plain KeySet) v order k known (keyed, keeps) = same_below world (step.Plain KeySet) v order (Is k) refl keyed
-under_key world (step.Plain EntrySet) v order k known (keyed, keeps) = same_below world (step.Plain EntrySet) v order (Is k) refl keyed
-under_key world (step.Plain Descending) v order k known (keyed, keeps) = same_below world (step.Plain Descending) v order (Is k) refl keyed
-under_key world (step.Plain Unmodifiable) v order k known (keyed, keeps) = same_below world (step.Plain Unmodifiable) v order (Is k) refl keyed
-under_key world (step.Filter word p) v order k known (keyed, keeps) = same_below world (step.Filter word p) v order (Is k) refl keyed
-under_key world (step.FilterPairs q) v order k known (keyed, keeps) = same_below world (step.FilterPairs q) v order (Is k) refl keyed
-under_key world (step.Change TransformValues f) v order k known (keyed, keeps) = same_below world (step.Change TransformValues f) v order (Is k) refl keyed
-under_key world (step.Change AsMap f) v order k known (keyed, keeps) = same_below world (step.Change AsMap f) v order (Is k) refl keyed
-under_key world _ v order k known (keyed, keeps) = absurd (cc)
+element_in_window : (world : World) (o : Order) (w : Window) (v : View) (order : GroupOrder) (side : Side) (x : Elem) → IsStep world (step.Within o w) v → PartFrom (shape_at world v) (step.Within o w) side → AskBelow world (step.Within o w) v order side (Is x)
+element_in_window world o w v order side x s p =
+    let key : p.below ≡ First = sorted_first (shape_at world v) p.below (window_sorted (shape_at world v) o w s.shape s.on.given) p.unique in
+    let same : side ≡ First = same_Some side p.below p.from ∙ key in
+    subst (λ (t : Side). AskBelow world (step.Within o w) v order t (Is x)) (sym same)
+    (key_in_window world o w v order x (subst (λ (t : Side). is_unique (shape_at world v) t ≡ true) key p.unique))
+
+under_element : (world : World) (it : Step) (v : View) (order : GroupOrder) (side : Side) (x : Elem) → IsStep world it v → PartFrom (shape_at world v) it side → AskBelow world it v order side (Is x)
+under_element world (step.Within o w) v order side x s p = element_in_window world o w v order side x s p
+under_element world it v order side x s p = element_moved world it v order side x s p refl
+
+-- ---- a window
+
+window_moved : (world : World) (it : Step) (v : View) (order : GroupOrder) (other : Order) (inner : Window) → IsStep world it v → source_of it First ≡ Some First → own_ask it ≡ Any → HasAsk world v First (Within other inner)
+    → AskBelow world it v order First (Within other inner)
+window_moved world it v order other inner s from none has = record {
+  part = First;
+  below = Within other inner;
+  down = step_asks (shape_at world v) order it First (Within other inner) s.known (told_first world it v s) (told_first world it v s)
+      ∙ ap (λ (o : Option Side). moved o (Within other inner) (asking (own_ask it) Any)) from
+      ∙ ap (λ (a : PartAsk). with_ask First (Within other inner) (asking a Any)) none;
+  has = has;
+  of_part = λ t x is. absurd is;
+}
 
 -- the smaller of two windows, one of which encloses the other
 window_in_window : (world : World) (o other : Order) (w inner : Window) (v : View) (order : GroupOrder) → is_sorted (shape_at world v) ≡ true → IsKept world v (step.Within o w)
-    → (other ≡ order_at world v) × (upto other inner.lo inner.hi ≡ true) × (encloses other w inner ≡ true) → AskBelow world (step.Within o w) v order (Within other inner)
+    → (other ≡ order_at world v) × (upto other inner.lo inner.hi ≡ true) × (encloses other w inner ≡ true) → AskBelow world (step.Within o w) v order First (Within other inner)
 window_in_window world o other w inner v order sorted rule has = by (encloses other inner w) refl
   where
     same : other ≡ o
@@ -151,61 +253,63 @@ window_in_window world o other w inner v order sorted rule has = by (encloses ot
     asked : Option PartAsk → Option Lane
     asked a = option_and_then (λ below. moved (Some Second) Any below) (option_map (with_first (asking (Within o w) Any)) a)
 
-    by : (t : Bool) → encloses other inner w ≡ t → AskBelow world (step.Within o w) v order (Within other inner)
-    by true h = record { below = Within o w; down = ap asked (asks true h); has = (sorted, rule.0, rule.1, rule.2); of_key = λ k is. absurd is }
-    by false h = record { below = Within other inner; down = ap asked (asks false h); has = (sorted, has.0, has.1, outer); of_key = λ k is. absurd is }
+    by : (t : Bool) → encloses other inner w ≡ t → AskBelow world (step.Within o w) v order First (Within other inner)
+    by true h = record { part = First; below = Within o w; down = ap asked (asks true h); has = (sorted, rule.0, rule.1, rule.2); of_part = λ t x is. absurd is }
+    by false h = record { part = First; below = Within other inner; down = ap asked (asks false h); has = (sorted, has.0, has.1, outer); of_part = λ t x is. absurd is }
 
-under_window : (world : World) (it : Step) (v : View) (order : GroupOrder) (other : Order) (inner : Window) → is_known it ≡ true → IsStepOn world v it → is_sorted (shape_at world v) ≡ true → KeepsKeys it → HasAsk world (over it v) (Within other inner)
-    → AskBelow world it v order (Within other inner)
-under_window world (step.Within o w) v order other inner known on sorted keeps has = window_in_window world o other w inner v order sorted on.kept (has.1, has.2, has.3)
-under_window world (step.Plain Values) v order other inner known on sorted keeps has = absurd keeps
-under_window world (step.Change Transform f) v order other inner known on sorted keeps has = absurd keeps
-under_window world (step.Plain Reverse) v order other inner known on sorted keeps has = same_below world (step.Plain Reverse) v order (Within other inner) refl (sorted, has.1, has.2, has.3)
-under_window world (step.Plain KeySet) v order other inner known on sorted keeps has = same_below world (step.Plain KeySet) v order (Within other inner) refl (sorted, has.1, has.2, has.3)
-under_window world (step.Plain EntrySet) v order other inner known on sorted keeps has = same_below world (step.Plain EntrySet) v order (Within other inner) refl (sorted, has.1, has.2, has.3)
-under_window world (step.Plain Descending) v order other inner known on sorted keeps has = same_below world (step.Plain Descending) v order (Within other inner) refl (sorted, has.1, has.2, has.3)
-under_window world (step.Plain Unmodifiable) v order other inner known on sorted keeps has = same_below world (step.Plain Unmodifiable) v order (Within other inner) refl (sorted, has.1, has.2, has.3)
-under_window world (step.Filter word p) v order other inner known on sorted keeps has = same_below world (step.Filter word p) v order (Within other inner) refl (sorted, has.1, has.2, has.3)
-under_window world (step.FilterPairs q) v order other inner known on sorted keeps has = same_below world (step.FilterPairs q) v order (Within other inner) refl (sorted, has.1, has.2, has.3)
-under_window world (step.Change TransformValues f) v order other inner known on sorted keeps has = same_below world (step.Change TransformValues f) v order (Within other inner) refl (sorted, has.1, has.2, has.3)
-under_window world (step.Change AsMap f) v order other inner known on sorted keeps has = same_below world (step.Change AsMap f) v order (Within other inner) refl (sorted, has.1, has.2, has.3)
-under_window world _ v order other inner known on sorted keeps has = absurd (cc)
+under_window : (world : World) (it : Step) (v : View) (order : GroupOrder) (other : Order) (inner : Window) → IsStep world it v → source_of it First ≡ Some First → is_sorted (shape_at world v) ≡ true → HasAsk world (over it v) First (Within other inner)
+    → AskBelow world it v order First (Within other inner)
+under_window world (step.Within o w) v order other inner s from sorted has = window_in_window world o other w inner v order sorted s.on.kept (has.1, has.2, has.3)
+under_window world it v order other inner s from sorted has = window_moved world it v order other inner s from refl (sorted, has.1, has.2, has.3)
 
-ask_below : (world : World) (it : Step) (v : View) (order : GroupOrder) (ask : PartAsk) → is_known it ≡ true → is_known_shape (shape_at world v) ≡ true → is_known_shape (shape_at world (over it v)) ≡ true → IsStepOn world v it
-    → HasAsk world (over it v) ask → AskBelow world it v order ask
-ask_below world it v order Any known below above on has = under_any world it v order known below on
-ask_below world it v order (Is k) known below above on has = under_key world it v order k known (keyed_down (shape_at world v) it below on.given has)
-ask_below world it v order (Within o w) known below above on has =
-    under_window world it v order o w known on (sorted_down (shape_at world v) it below on.given has.0)
-    (keyed_down (shape_at world v) it below on.given (sorted_keyed (shape_at world (over it v)) above has.0)).1 has
-ask_below world it v order Nothing known below above on has = under_nothing world it v order known below
+keys_from : (world : World) (it : Step) (v : View) → IsStep world it v → is_sorted (shape_at world v) ≡ true → is_sorted (shape_at world (over it v)) ≡ true → source_of it First ≡ Some First
+keys_from world it v s sorted above =
+    let p = part_down (shape_at world v) it First s.shape s.on.given (sorted_keyed (shape_at world (over it v)) s.above above) in
+    p.from ∙ ap Some (sorted_first (shape_at world v) p.below sorted p.unique)
 
--- ---- the whole way down
+-- ---- the laws of one step, and the whole way down
 
-pub record AskDown (world : World) (v : View) (ask : PartAsk) (back : Bool) : Type 0 where
+ask_below : (world : World) (it : Step) (v : View) (order : GroupOrder) (side : Side) (ask : PartAsk) → IsStep world it v → HasAsk world (over it v) side ask → AskBelow world it v order side ask
+ask_below world it v order First Any s has = under_any world it v order s
+ask_below world it v order Second Any s has = let b = under_any world it v order s in record { part = b.part; below = b.below; down = b.down; has = b.has; of_part = λ t x is. absurd is }
+ask_below world it v order side (Is x) s has = under_element world it v order side x s (part_down (shape_at world v) it side s.shape s.on.given has)
+ask_below world it v order First (Within o w) s has =
+    let sorted : is_sorted (shape_at world v) ≡ true = sorted_down (shape_at world v) it s.shape s.on.given has.0 in
+    under_window world it v order o w s (keys_from world it v s sorted has.0) sorted has
+ask_below world it v order Second (Within o w) s has = absurd has
+ask_below world it v order First Nothing s has = under_nothing world it v order s
+ask_below world it v order Second Nothing s has = absurd has
+
+pub record AskDown (world : World) (v : View) (side : Side) (ask : PartAsk) (back : Bool) : Type 0 where
+  pub part : Side
   pub below : PartAsk
   pub from_back : Bool
-  pub down : lane_down world v (of_keys ask) back ≡ Some (of_keys below, from_back)
-  pub served : ServesKeys (leaf_at world (base_under v)).kind below
-  pub of_key : (k : Elem) → IsOfKey k ask → IsOfKey k below
+  pub down : lane_down world v (of_ask side ask) back ≡ Some (of_ask part below, from_back)
+  pub served : ServesPart (leaf_at world (base_under v)).kind part below
+  pub of_part : (t : Side) (x : Elem) → IsOfPart t x side ask → IsOfPart (part_below v t) x part below
 
-at_base : (world : World) (l : Leaf) (ask : PartAsk) → HasAsk world (base l) ask → ServesKeys (leaf_at world l).kind ask
-at_base world l Any has = tt
-at_base world l (Is k) has = has
-at_base world l (Within order w) has = (has.0, has.1, has.2)
-at_base world l Nothing has = tt
+at_base : (world : World) (l : Leaf) (side : Side) (ask : PartAsk) → HasAsk world (base l) side ask → ServesPart (leaf_at world l).kind side ask
+at_base world l First Any has = tt
+at_base world l Second Any has = tt
+at_base world l side (Is x) has = has
+at_base world l First (Within order w) has = (has.0, has.1, has.2)
+at_base world l Second (Within order w) has = absurd has
+at_base world l First Nothing has = tt
+at_base world l Second Nothing has = absurd has
 
-pub ask_down : (world : World) (v : View) (ask : PartAsk) (back : Bool) → is_known_view v ≡ true → is_known_kind (leaf_at world (base_under v)).kind ≡ true → IsMade world v → HasAsk world v ask → AskDown world v ask back
-ask_down world (base l) ask back known kind made has = record { below = ask; from_back = back; down = refl; served = at_base world l ask has; of_key = λ k is. is }
-ask_down world (over it v) ask back known kind made has =
+pub ask_down : (world : World) (v : View) (side : Side) (ask : PartAsk) (back : Bool) → is_known_view v ≡ true → is_known_kind (leaf_at world (base_under v)).kind ≡ true → IsMade world v → HasAsk world v side ask → AskDown world v side ask back
+ask_down world (base l) side ask back known kind made has = record { part = side; below = ask; from_back = back; down = refl; served = at_base world l side ask has; of_part = λ t x is. is }
+ask_down world (over it v) side ask back known kind made has =
     let parts = known_over it v known in
-    let step = ask_below world it v (group_order_at world v it) ask parts.0 (known_shape world v parts.1 kind) (known_shape world (over it v) known kind) made.0 has in
-    let rest = ask_down world v step.below (flipped it back) parts.1 kind made.1 step.has in
+    let s : IsStep world it v = record { known = parts.0; shape = known_shape world v parts.1 kind; above = known_shape world (over it v) known kind; on = made.0 } in
+    let step = ask_below world it v (group_order_at world v it) side ask s has in
+    let rest = ask_down world v step.part step.below (flipped it back) parts.1 kind made.1 step.has in
     record {
+      part = rest.part;
       below = rest.below;
       from_back = rest.from_back;
       down = ap (option_and_then (λ (below : Lane). lane_down world v below (flipped it back))) step.down ∙ rest.down;
       served = rest.served;
-      of_key = λ k is. rest.of_key k (step.of_key k is);
+      of_part = λ t x is. rest.of_part (part_from (source_of it t) t) x (step.of_part t x is);
     }
-ask_down world (both word v u) ask back known kind made has = absurd (cc)
+ask_down world (both word v u) side ask back known kind made has = absurd (cc)

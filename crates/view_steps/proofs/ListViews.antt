@@ -1,27 +1,23 @@
 -- List views: every candidate is seen.
-use Rattle.std.proofs.Common.{◌≡◌, ℕ, zero, suc, ◌+◌, ◌-◌, ◌<◌, Bool, true, false, cond, not, List, [], ◌∷◌, length, map, reverse, refl, ap, sym, ◌∙◌, arith}
-use Rattle.std.specs.Prelude.{filter, slice_get, Some}
+use Rattle.std.proofs.Common.{◌≡◌, ℕ, ◌+◌, true, List, [], ◌∷◌, map, reverse, refl, ap, ◌∙◌}
+use Rattle.std.specs.Prelude.{filter}
 use Rattle.vocabulary.specs.declared.items.Item.{Item}
 use Rattle.vocabulary.specs.declared.steps.ChangeStep.TheVariants.{Transform}
 use Rattle.vocabulary.specs.declared.steps.PlainStep.TheVariants.{Reverse, Unmodifiable}
 use Rattle.vocabulary.specs.declared.steps.Step.{Step}
 use Rattle.vocabulary.specs.declared.steps.Step.TheVariants as step
-use Rattle.view_laws.specs.Lanes.{turned_if}
-use Rattle.view_steps.specs.Indexes.{item_index}
-use Rattle.view_steps.specs.Turning.{turned, turns}
 use Rattle.machine.specs.MadeViews.{IsMade}
 use Rattle.vocabulary.specs.Steps.{family_of, item_of}
 use Rattle.machine.specs.Bases.{World}
 use Rattle.machine.specs.KeyOrders.{KeyOrder}
 use Rattle.machine.specs.Leaves.{leaf_at}
-use Rattle.machine.specs.Views.{View, base, both, over, base_under, candidates, order_over, shape_at}
+use Rattle.machine.specs.Views.{View, base, both, over, candidates, order_over, shape_at}
 use Rattle.vocabulary.specs.Shapes.{is_list}
 use Rattle.view_steps.specs.KnownViews.{is_known_view}
 use Rattle.machine.specs.Candidates.{Candidate, in_family, is_seen, of_rows, with_item}
 use Rattle.view_steps.proofs.IndexLemmas.{IsListStep, list_below}
 use Rattle.view_steps.proofs.KnownLemmas.{known_over}
 use Rattle.view_steps.proofs.ListLemmas.{filter-map, filter-reverse}
-use Rattle.view_steps.proofs.TurnLemmas.{slice_get-reverse}
 
 rows_seen : (n : ℕ) (rows : List Item) → filter is_seen (of_rows n rows) ≡ of_rows n rows
 rows_seen n [] = refl

@@ -1,8 +1,7 @@
 -- Views as they are made: their windows are in order, and they stay while the kinds of bases do.
 use Rattle.std.proofs.lemmas.Bool.Decides.{nat_tests}
-use Rattle.std.proofs.Common.{arith, ◌≡◌, ℕ, ◌<◌, Bool, true, false, cond, ◌&&◌, refl, ap, sym, ◌∙◌, subst}
+use Rattle.std.proofs.Common.{arith, ◌≡◌, ℕ, ◌<◌, Bool, true, false, cond, refl, ap, sym, ◌∙◌, subst}
 use Rattle.std.specs.Prelude.{nat_lt, Option, Some, None, IsSome}
-use Rattle.elem.specs.declared.windows.Window.{Window}
 use Rattle.vocabulary.specs.declared.orders.Order.{Order}
 use Rattle.vocabulary.specs.declared.shapes.Shape.{Shape}
 use Rattle.vocabulary.specs.declared.steps.Step.{Step}
@@ -17,7 +16,7 @@ use Rattle.machine.specs.Reading.{first_refusal}
 use Rattle.vocabulary.specs.Limits.{longest_path}
 use Rattle.machine.specs.MadeViews.{IsMade, IsStepOn, IsKept}
 use Rattle.machine.specs.Bases.{World}
-use Rattle.machine.specs.Leaves.{Leaf, leaf_at}
+use Rattle.machine.specs.Leaves.{leaf_at}
 use Rattle.view_steps.specs.KnownViews.{is_known, is_known_view}
 use Rattle.machine.specs.Views.{View, base, both, over, shape_at, shape_after, base_under, path}
 use Rattle.vocabulary.specs.declared.refusals.Refusal.{Refusal}

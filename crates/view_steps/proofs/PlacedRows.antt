@@ -8,7 +8,7 @@ use Rattle.elem.specs.Elements.{same}
 use Rattle.vocabulary.specs.declared.items.Item.{Item}
 use Rattle.vocabulary.specs.declared.kinds.Kind.{Kind}
 use Rattle.vocabulary.specs.declared.edits.Spot.TheVariants.{Own, Before}
-use Rattle.vocabulary.specs.declared.kinds.Kind.TheVariants.{ArrayList, LinkedHashSet, TreeSet, TreeSetReverse, TreeSetLength, LinkedHashMap, TreeMap, TreeMapReverse, TreeMapLength}
+use Rattle.vocabulary.specs.declared.kinds.Kind.TheVariants.{ArrayList, LinkedHashSet, TreeSet, TreeSetReverse, TreeSetLength, LinkedHashMap, TreeMap, TreeMapReverse, TreeMapLength, HashBiMap}
 use Rattle.machine.specs.Placing.{follows, placed, precedes, replaces, settled}
 use Rattle.machine.specs.Edits.{coming, placed_all}
 use Rattle.vocabulary.specs.Items.{key_of, second_of}
@@ -139,6 +139,7 @@ placed_by_key LinkedHashMap known row rows new = refl
 placed_by_key TreeMap known row rows new = sorted_by_key TreeMap row rows new
 placed_by_key TreeMapReverse known row rows new = sorted_by_key TreeMapReverse row rows new
 placed_by_key TreeMapLength known row rows new = sorted_by_key TreeMapLength row rows new
+placed_by_key HashBiMap known row rows new = refl
 placed_by_key _ known row rows new = absurd (cc)
 
 -- ---- rows that come to a list

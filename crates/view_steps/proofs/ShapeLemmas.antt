@@ -5,10 +5,10 @@ use Rattle.vocabulary.specs.declared.shapes.Shape.TheVariants as shape
 use Rattle.vocabulary.specs.declared.shapes.ValueShape.{ValueShape}
 use Rattle.vocabulary.specs.declared.steps.FilterStep.TheVariants.{Filter, FilterKeys, FilterValues}
 use Rattle.vocabulary.specs.declared.steps.Flags.{Flags}
-use Rattle.vocabulary.specs.declared.steps.PlainStep.TheVariants.{KeySet, Values, EntrySet, Keys, Descending, Inverse, Transpose, ForMap, Unmodifiable}
+use Rattle.vocabulary.specs.declared.steps.PlainStep.TheVariants.{KeySet, Values, EntrySet, Keys, Descending, Transpose, ForMap, Unmodifiable}
 use Rattle.vocabulary.specs.declared.steps.Step.{Step}
 use Rattle.vocabulary.specs.declared.steps.Step.TheVariants as step
-use Rattle.vocabulary.specs.Shapes.{is_elements, is_map, is_keyed, is_list}
+use Rattle.vocabulary.specs.Shapes.{is_bimap, is_elements, is_map, is_keyed, is_list}
 use Rattle.vocabulary.specs.Kinds.{shape_of_kind}
 use Rattle.vocabulary.specs.StepShapes.{apply, filtered_by_key, filtered_by_value, where_sorted}
 use Rattle.vocabulary.specs.Steps.{flags_after}
@@ -23,26 +23,27 @@ use Rattle.view_steps.proofs.KnownLemmas.{known_over}
 pub record IsLike (below above : Shape) : Type 0 where
   pub elements : is_elements above ≡ is_elements below
   pub map : is_map above ≡ is_map below
+  pub bimap : is_bimap above ≡ is_bimap below
   pub list : is_list above ≡ true → is_list below ≡ true
 
 like_itself : (of : Shape) → IsLike of of
-like_itself of = record { elements = refl; map = refl; list = λ h. h }
+like_itself of = record { elements = refl; map = refl; bimap = refl; list = λ h. h }
 
 like_both : (a b c : Shape) → IsLike a b → IsLike b c → IsLike a c
-like_both a b c f g = record { elements = g.elements ∙ f.elements; map = g.map ∙ f.map; list = λ h. f.list (g.list h) }
+like_both a b c f g = record { elements = g.elements ∙ f.elements; map = g.map ∙ f.map; bimap = g.bimap ∙ f.bimap; list = λ h. f.list (g.list h) }
 
 where_it_is : (sorted : Bool) (of : Shape) → IsLike of (shape_after of (where_sorted sorted of))
 where_it_is true of = like_itself of
 where_it_is false of = like_itself of
 
 coll_of_list : IsLike shape.List shape.Coll
-coll_of_list = record { elements = refl; map = refl; list = λ h. absurd (cc) }
+coll_of_list = record { elements = refl; map = refl; bimap = refl; list = λ h. absurd (cc) }
 
 unsorted_bag : (sorted : Bool) → IsLike (shape.Bag sorted) (shape.Bag false)
-unsorted_bag sorted = record { elements = refl; map = refl; list = λ h. absurd (cc) }
+unsorted_bag sorted = record { elements = refl; map = refl; bimap = refl; list = λ h. absurd (cc) }
 
 other_multimap : (of other : ValueShape) (sorted : Bool) → IsLike (shape.Multimap of sorted) (shape.Multimap other false)
-other_multimap of other sorted = record { elements = refl; map = refl; list = λ h. absurd (cc) }
+other_multimap of other sorted = record { elements = refl; map = refl; bimap = refl; list = λ h. absurd (cc) }
 
 -- each known step that allows adding gives such a shape
 pub step_like : (of : Shape) (below : Flags) (it : Step) → is_known it ≡ true → (flags_after of it below).add ≡ true → IsLike of (shape_after of (apply of it))
@@ -52,7 +53,6 @@ step_like of below (step.Plain EntrySet) known ok = absurd (cc)
 step_like of below (step.Plain Unmodifiable) known ok = absurd (cc)
 step_like of below (step.Change word f) known ok = absurd (cc)
 step_like of below (step.Plain Keys) known ok = absurd (cc)
-step_like of below (step.Plain Inverse) known ok = absurd (cc)
 step_like of below (step.Plain Transpose) known ok = absurd (cc)
 step_like of below (step.Plain ForMap) known ok = absurd (cc)
 step_like of below (step.At side k n) known ok = absurd (cc)
@@ -115,6 +115,14 @@ adds_over world (over it v) known ok =
     (adds_over world v parts.1 (adds_below (shape_at world v) (flags_at world v) it ok))
     (step_like (shape_at world v) (flags_at world v) it parts.0 ok)
 adds_over world (both word v u) known ok = absurd (cc)
+
+-- so it stands on a bimap where it is one
+pub adds_bimap : (world : World) (v : View) → is_known_view v ≡ true → (flags_at world v).add ≡ true → is_bimap (shape_at world v) ≡ is_bimap (shape_of_kind (leaf_at world (base_under v)).kind)
+adds_bimap world v known ok = (adds_over world v known ok).bimap
+
+pub elements_no_bimap : (of : Shape) → is_elements of ≡ true → is_bimap of ≡ false
+elements_no_bimap shape.BiMap h = absurd (cc)
+elements_no_bimap _ h = refl
 
 pub list_unkeyed : (of : Shape) → is_list of ≡ true → is_keyed of ≡ false
 list_unkeyed shape.List h = refl

@@ -23,11 +23,12 @@ use Rattle.machine.specs.Edits.{Edit, adding, an_edit}
 use Rattle.machine.specs.MadeViews.{IsMade}
 use Rattle.machine.specs.Shown.{value_shown}
 use Rattle.machine.specs.Spots.{own_spot}
-use Rattle.machine.specs.Views.{View, flags_at, shape_at, shown}
+use Rattle.machine.specs.Views.{View, root, flags_at, shape_at, shown}
 use Rattle.view_steps.specs.Indexes.{end_of_view}
 use Rattle.view_steps.specs.KnownViews.{is_known_view, number_under}
 use Rattle.view_steps.proofs.CallLemmas as calls
-use Rattle.view_steps.proofs.KnownLemmas.{goes_by_itself}
+use Rattle.view_steps.proofs.KindLemmas.{no_bimap}
+use Rattle.view_steps.proofs.KnownLemmas.{goes_by_itself, not_swapped}
 use Rattle.view_steps.proofs.SpotViews as spots
 use Rattle.write_chain.specs.Calls.{added, added_last, answered_known, answered_known_with, known_refusal, known_refusal_with, left}
 use Rattle.write_chain.proofs.LiftLemmas.{adding_allowed}
@@ -45,7 +46,7 @@ stands world v b at known kind made = record { known = known; kind = subst (λ (
 
 all_left : (world : World) (v : View) (answer : Answer) (edit : Option Edit) → Stands world v → carried_out world v answer (option_map an_edit edit) ≡ left world v answer edit
 all_left world v answer None it = refl
-all_left world v answer (Some edit) it = calls.carried world v it.kind answer edit
+all_left world v answer (Some edit) it = calls.carried world v answer edit (calls.takes_edits (root world v) it.kind (no_bimap (root world v).kind it.kind) edit)
 
 pub known_answer : (world : World) (v : View) (call : Call) → Stands world v → is_known_call (form_of_call call) ≡ true → answered world v call ≡ answered_known world v call
 known_answer world v call it known =
@@ -77,4 +78,4 @@ pub put_given : (world : World) (v : View) (k w : Elem) (before : Option Elem) �
 put_given world v k w before it ok is =
     let items : List Item = Entry k w ∷ [] in
     adding_allowed world v None items (adding (own_spot v) (rows_for v items)) (Optional (value_shown (shown world v) k)) ok refl
-    ∙ (λ i. added world v items (goes_by_itself v it.known i) (Optional (sym is i)))
+    ∙ (λ i. added world v items (goes_by_itself v (not_swapped v it.known) i) (Optional (sym is i)))

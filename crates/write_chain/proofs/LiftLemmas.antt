@@ -16,6 +16,7 @@ use Rattle.machine.specs.Reading.{first_refusal}
 use Rattle.machine.specs.Bases.{World}
 use Rattle.machine.specs.Views.{View, flags_at, lift}
 use Rattle.write_chain.specs.Calls.{added, left}
+use Rattle.view_steps.proofs.KnownLemmas.{not_swapped}
 use Rattle.view_steps.proofs.LiftLemmas.{rows_same}
 
 -- ---- adding to a view that allows it
@@ -24,7 +25,7 @@ pub all_pass : (world : World) (v : View) (items : List Item) (spot : Spot) (ans
     → added world v items spot answer ≡ within_rows answer (edited_at world (number_under v) (adding spot items))
 all_pass world v items spot answer known h =
     ap (λ b. unless_refused (cond b None (Some IllegalArgument)) (left world v answer (Some (adding spot (rows_for v items))))) h
-    ∙ ap (λ rows. within_rows answer (edited_at world (number_under v) (adding spot rows))) (rows_same v known items h)
+    ∙ ap (λ rows. within_rows answer (edited_at world (number_under v) (adding spot rows))) (rows_same v known (not_swapped v known) items h)
 
 -- what an adding call answers, where the view allows it and the argument is in order
 pub adding_allowed : (world : World) (v : View) (test : Option Refusal) (items : List Item) (edit : Edit) (answer : Answer) → (flags_at world v).add ≡ true → test ≡ None

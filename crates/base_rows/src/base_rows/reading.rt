@@ -7,7 +7,8 @@ ghost use Rattle.base_rows.specs.KeyLines.{key_line, keys_in};
 ghost use Rattle.vocabulary.specs.Kinds.{shape_of_kind};
 ghost use Rattle.view_laws.specs.Following.{Follows, IsFrom};
 ghost use Rattle.view_laws.specs.Spots as spots;
-ghost use Rattle.view_laws.specs.Serving.{Serves, ServesKeys};
+ghost use Rattle.view_laws.specs.Serving.{Serves, ServesPart};
+ghost use Rattle.vocabulary.specs.declared.items.Side.TheVariants.{First};
 ghost use Rattle.vocabulary.specs.Items.{key_of, same_item};
 ghost use Rattle.vocabulary.specs.Shapes.{is_keyed, is_list};
 ghost use Rattle.vocabulary.specs.declared.items.Item.TheVariants.{One};
@@ -58,7 +59,7 @@ impl BaseRows {
         steps: &mut Steps<L>,
     ) -> Option<SpottedRow>
         requires keyed { is_keyed (shape_of_kind (kind_of self.now)) ≡ true }
-        requires serves { ServesKeys (kind_of self.now) ask.now }
+        requires serves { ServesPart (kind_of self.now) First ask.now }
         requires from { IsFrom (key_line ask.now back (keys_in self.now)) from }
         ensures next { Follows (key_line ask.now back (keys_in self.now)) from (option_map (λ found. key_of found.row) result) }
         ensures spot { IfSome result (λ found. found.spot ≡ spec.key_spot found.row) }

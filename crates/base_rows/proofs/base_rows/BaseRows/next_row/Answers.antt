@@ -5,18 +5,18 @@ use Rattle.base_rows.specs.BaseRows.{base_line, base_spots, rows_of}
 use Rattle.view_laws.specs.Following.{Follows}
 use Rattle.view_laws.specs.Spots as spots
 use Rattle.vocabulary.specs.Items.{key_of}
-use Rattle.base_rows.proofs.KeyedRows.{keyed_but_list}
+use Rattle.base_rows.proofs.KeyedRows.{keyed_but_list, of_keys_alone}
 use Rattle.base_rows.proofs.ListLines.{from_list, follows_in_list, list_serves}
 use Rattle.base_rows.proofs.SpotLines.{from_in_line, follows_in_line, row_of_found, spot_of_found}
 use Rattle.base_rows.proofs.base_rows.BaseRows.next_row.Goals as goal
 
 pub next_item-requires : goal.next_item-requires
 next_item-requires g c =
-    rw (c.index_at.ensures) (from_list c.args.self.now c.in-ArrayList.rows c.args.lane.now c.args.back c.args.from.now c.in-ArrayList.is c.in-Any.is c.requires.serves.values c.requires.from)
+    rw (c.index_at.ensures) (from_list c.args.self.now c.in-ArrayList.rows c.args.lane.now c.args.back c.args.from.now c.in-ArrayList.is c.in-Any.is (of_keys_alone c.args.self.now c.args.lane.now c.requires.serves) c.requires.from)
 
 pub returns-in-Any-clause-next : goal.returns-in-Any-clause-next
 returns-in-Any-clause-next g c =
-    follows_in_list c.args.self.now c.in-ArrayList.rows c.args.lane.now c.args.back c.args.from.now c.in-ArrayList.is c.in-Any.is c.requires.serves.values c.requires.from (option_map (λ found. found.spot) c.next_item.result)
+    follows_in_list c.args.self.now c.in-ArrayList.rows c.args.lane.now c.args.back c.args.from.now c.in-ArrayList.is c.in-Any.is (of_keys_alone c.args.self.now c.args.lane.now c.requires.serves) c.requires.from (option_map (λ found. found.spot) c.next_item.result)
     (rw (c.index_at.ensures) at c.next_item.ensures.next)
 
 pub returns-in-Any-clause-row : goal.returns-in-Any-clause-row
@@ -35,7 +35,7 @@ next_keyed-requires g c =
     record {
       keyed = keyed;
       serves = c.requires.serves.keys;
-      from = rw (c.key_at.ensures) (from_in_line c.args.self.now c.args.lane.now c.args.back c.args.from.now keyed c.requires.serves.values c.requires.from);
+      from = rw (c.key_at.ensures) (from_in_line c.args.self.now c.args.lane.now c.args.back c.args.from.now keyed (of_keys_alone c.args.self.now c.args.lane.now c.requires.serves) c.requires.from);
     }
 
 pub returns-in_default : goal.returns-in_default
@@ -43,7 +43,7 @@ returns-in_default g c =
     let keyed = keyed_but_list c.args.self.now c.in_default.not-ArrayList in
     record {
       next = subst (Follows (base_line c.args.self.now c.args.lane.now c.args.back) c.args.from.now) (spot_of_found c.next_keyed.result c.next_keyed.ensures.spot)
-          (follows_in_line c.args.self.now c.args.lane.now c.args.back c.args.from.now (option_map (λ found. key_of found.row) c.next_keyed.result) keyed c.requires.serves.values c.requires.from (rw (c.key_at.ensures) at c.next_keyed.ensures.next));
+          (follows_in_line c.args.self.now c.args.lane.now c.args.back c.args.from.now (option_map (λ found. key_of found.row) c.next_keyed.result) keyed (of_keys_alone c.args.self.now c.args.lane.now c.requires.serves) c.requires.from (rw (c.key_at.ensures) at c.next_keyed.ensures.next));
       row = row_of_found c.args.self.now c.next_keyed.result keyed c.next_keyed.ensures.spot c.next_keyed.ensures.row;
       step = c.next_keyed.ensures.step;
     }
