@@ -11,3 +11,4 @@ pub mod TypingLemmas
 pub mod LineLemmas
 pub mod SessionLemmas
 pub mod BindLemmas
+pub mod BoundLemmas

@@ -143,7 +143,7 @@ module _ (line : List ℕ) where
     last_alike [] = refl
     last_alike (c ∷ cs) = refl
 
-    words_alike : (on : Shape) (cs : List (Call Slice)) → typed_words known world names for on (parts_in line (map part_of cs)) ≡ typed_words known world names for on (map (in_pieces line) cs)
+    pub words_alike : (on : Shape) (cs : List (Call Slice)) → typed_words known world names for on (parts_in line (map part_of cs)) ≡ typed_words known world names for on (map (in_pieces line) cs)
     words_alike on [] = refl
     words_alike on (c ∷ cs) =
         ap (λ (last : Bool). go_on on (λ next. typed_words known world names for next (parts_in line (map part_of cs))) (typed_word known world names for last on (part_in line (part_of c)))) (last_alike cs)

@@ -5,6 +5,7 @@ pub mod Coming
 pub mod Codes
 pub mod Environment
 pub mod Targets
+pub mod Bounds
 pub mod Following
 pub mod Binding
 pub mod Printing

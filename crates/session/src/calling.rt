@@ -1,6 +1,7 @@
 //! The calls on views.
 ghost use Rattle.std.specs.Prelude.{◌≡◌, ◌<◌, ◌^◌, ◌-◌, true, length, Ok, IfOk};
 ghost use Rattle.base_store.specs.Stored.{view_in};
+ghost use Rattle.session.specs.Bounds.{AsksAtMost, most_of_call};
 ghost use Rattle.session.specs.Coming.{Came};
 ghost use Rattle.session.specs.KnownShapes.{is_known_answer};
 ghost use Rattle.session.specs.Replying.{Tells};
@@ -31,7 +32,8 @@ pub fn call_on<S: Sink, L: Ledger>(
     requires fits { spec.fits (shape_at store.old.world (view_in store.old n)) call.now ≡ true }
     requires known { is_known_call (form_of_call call.now) ≡ true }
     requires change { ChangesUpTo (2 ^ 63 - 1) store.old.world }
-    ensures { Came result store.old store.new (λ state. ended state (calls (Ok call.now)) (view_in store.old n)) (S.taken out.old) (S.taken out.new) (S.faults out.old) (S.faults out.new) }
+    ensures came { Came result store.old store.new (λ state. ended state (calls (Ok call.now)) (view_in store.old n)) (S.taken out.old) (S.taken out.new) (S.faults out.old) (S.faults out.new) }
+    ensures asked { AsksAtMost (most_of_call store.old.world (view_in store.old n) call.now) steps.old steps.new }
 {
     let _base = store.base_of(n);
     let answer = write_chain::call(store, n, call, steps);

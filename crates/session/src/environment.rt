@@ -2,6 +2,7 @@
 ghost use Rattle.std.specs.Prelude.{◌≡◌, ◌≤◌, ◌^◌, ◌-◌, true, length, IfErr, IfSome, OnErr, OnOk};
 ghost use Rattle.script_text.specs.Names.{kind_text};
 ghost use Rattle.session.specs.Binding.{Answers, IsFull, KeptNode, Keeps};
+ghost use Rattle.session.specs.Bounds.{AsksAtMost, most_for_words};
 ghost use Rattle.session.specs.Executing.{Executed};
 ghost use Rattle.session.specs.Following.{parts_in};
 ghost use Rattle.machine.specs.Languages.{known, only_if};
@@ -133,7 +134,8 @@ impl Environment {
     ) -> Result<(), ExecFault>
         requires short { length line.now ≤ 1024 }
         requires change { ChangesUpTo (2 ^ 63 - 1) self.old.bases }
-        ensures { Executed result self.old self.new (eval_of known self.old head (bound_to self.old.names head) (parts_in line.now parts.now)) (S.taken out.old) (S.taken out.new) (S.faults out.old) (S.faults out.new) }
+        ensures executed { Executed result self.old self.new (eval_of known self.old head (bound_to self.old.names head) (parts_in line.now parts.now)) (S.taken out.old) (S.taken out.new) (S.faults out.old) (S.faults out.new) }
+        ensures asked { AsksAtMost (most_for_words self.old (bound_to self.old.names head) (parts_in line.now parts.now)) steps.old steps.new }
     {
         let Some(head) = self.names.get(&head) else {
             return say(reply, out, b"?name");

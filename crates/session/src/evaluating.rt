@@ -1,6 +1,7 @@
 //! Evaluating the words behind a name.
 ghost use Rattle.std.specs.Prelude.{◌≡◌, ◌<◌, ◌≤◌, ◌++◌, ◌∷◌, [], ◌^◌, ◌-◌, true, Ok, length};
 ghost use Rattle.base_store.specs.Stored.{view_in};
+ghost use Rattle.session.specs.Bounds.{AsksAtMost, most_for};
 ghost use Rattle.session.specs.Coming.{Came};
 ghost use Rattle.session.specs.Environment.{NamesWithin};
 ghost use Rattle.session.specs.Following.{IsEnd, end_in, parts_in, target_in};
@@ -44,6 +45,7 @@ pub fn evaluate<S: Sink, L: Ledger>(
     requires change { ChangesUpTo (2 ^ 63 - 1) store.old.world }
     ensures known { is_known_shape (shape_at store.old.world (view_in store.old head)) ≡ true }
     ensures came { Came result store.old store.new (λ state. concluded state (target_in store.old store.old.handles names.now.entries purpose.Reply head (parts_in line.now parts.now))) (S.taken out.old) (S.taken out.new) (S.faults out.old) (S.faults out.new) }
+    ensures asked { AsksAtMost (most_for store.old.world (target_in store.old store.old.handles names.now.entries purpose.Reply head (parts_in line.now parts.now))) steps.old steps.new }
 {
     let [part] = parts else {
         return evaluate_words(store, names, head, line, parts, reply, out, steps);
@@ -89,6 +91,7 @@ fn evaluate_words<S: Sink, L: Ledger>(
     requires change { ChangesUpTo (2 ^ 63 - 1) store.old.world }
     ensures known { is_known_shape (shape_at store.old.world (view_in store.old head)) ≡ true }
     ensures came { Came result store.old store.new (λ state. concluded state (target_in store.old store.old.handles names.now.entries purpose.Reply head (parts_in line.now parts.now))) (S.taken out.old) (S.taken out.new) (S.faults out.old) (S.faults out.new) }
+    ensures asked { AsksAtMost (most_for store.old.world (target_in store.old store.old.handles names.now.entries purpose.Reply head (parts_in line.now parts.now))) steps.old steps.new }
 {
     if let Some(fault) = typing_fault(
         store,
@@ -126,7 +129,8 @@ fn conclude<S: Sink, L: Ledger>(
 ) -> Result<(), ExecFault>
     requires end { IsEnd store.old end.now }
     requires change { ChangesUpTo (2 ^ 63 - 1) store.old.world }
-    ensures { Came result store.old store.new (λ state. concluded state (Ok (end_in store.old end.now))) (S.taken out.old) (S.taken out.new) (S.faults out.old) (S.faults out.new) }
+    ensures came { Came result store.old store.new (λ state. concluded state (Ok (end_in store.old end.now))) (S.taken out.old) (S.taken out.new) (S.faults out.old) (S.faults out.new) }
+    ensures asked { AsksAtMost (most_for store.old.world (Ok (end_in store.old end.now))) steps.old steps.new }
 {
     match end {
         Ok(end) => conclude_at(store, end, reply, out, steps),
@@ -144,7 +148,8 @@ fn conclude_at<S: Sink, L: Ledger>(
 ) -> Result<(), ExecFault>
     requires end { IsEnd store.old (Ok end.now) }
     requires change { ChangesUpTo (2 ^ 63 - 1) store.old.world }
-    ensures { Came result store.old store.new (λ state. concluded state (Ok (end_in store.old (Ok end.now)))) (S.taken out.old) (S.taken out.new) (S.faults out.old) (S.faults out.new) }
+    ensures came { Came result store.old store.new (λ state. concluded state (Ok (end_in store.old (Ok end.now)))) (S.taken out.old) (S.taken out.new) (S.faults out.old) (S.faults out.new) }
+    ensures asked { AsksAtMost (most_for store.old.world (Ok (end_in store.old (Ok end.now)))) steps.old steps.new }
 {
     match end {
         End::View(n) => print(store, *n, reply, out, steps),

@@ -1,6 +1,7 @@
 //! A session: the lines that are executed, one after another.
 ghost use Rattle.std.specs.Prelude.{◌≡◌, ℕ, ◌+◌, ◌^◌, ◌-◌, ◌≤◌, true, Err, OnOk};
 ghost use Rattle.elem.specs.Outside.{Rose};
+ghost use Rattle.session.specs.Bounds.{AsksAtMost, most_asked};
 ghost use Rattle.session.specs.Executing.{Executed};
 ghost use Rattle.session.specs.Replying.{Wrote};
 ghost use Rattle.machine.specs.Languages.{known};
@@ -73,6 +74,7 @@ impl Session {
         ensures unchanged { result ≡ Err ExecFault.NoMemory → self.new ≡ self.old }
         ensures memory { result ≡ Err ExecFault.NoMemory → (step known self.old line.now).memory ≡ true }
         ensures changes { (n : ℕ) → ChangesUpTo n self.old.bases → ChangesUpTo (n + 1) self.new.bases }
+        ensures asked { AsksAtMost (most_asked self.old line.now) steps.old steps.new }
         ensures later { S.faults out.old ≤ S.faults out.new }
         ensures cause { result ≡ Err ExecFault.WriteFault → Rose (S.faults out.old) (S.faults out.new) }
     {
@@ -86,7 +88,8 @@ impl Session {
         steps: &mut Steps<L>,
     ) -> Result<(), ExecFault>
         requires { ChangesUpTo (2 ^ 63 - 1) self.old.bases }
-        ensures { Executed result self.old self.new (step known self.old line.now) (S.taken out.old) (S.taken out.new) (S.faults out.old) (S.faults out.new) }
+        ensures executed { Executed result self.old self.new (step known self.old line.now) (S.taken out.old) (S.taken out.new) (S.faults out.old) (S.faults out.new) }
+        ensures asked { AsksAtMost (most_asked self.old line.now) steps.old steps.new }
     {
         match read_line(line, &mut self.parts) {
             Line::Blank => Ok(()),

@@ -1,12 +1,15 @@
-use Rattle.std.proofs.Common.{◌∙◌, ap, sym}
+use Rattle.std.proofs.Common.{Ok, ◌∙◌, ap, sym}
 use Rattle.std.specs.Result.{result_err}
 use Rattle.base_store.specs.Stored.{view_in}
 use Rattle.vocabulary.specs.declared.lines.Purpose.TheVariants as purpose
 use Rattle.session.specs.Environment.{named}
-use Rattle.session.specs.Following.{parts_in, target_in}
+use Rattle.session.specs.Bounds.{most_for}
+use Rattle.session.specs.Following.{end_in, parts_in, target_in}
 use Rattle.session.specs.KnownShapes.{is_known_shape}
 use Rattle.machine.specs.Languages.{known}
 use Rattle.machine.specs.Typing.{typed_words}
+use Rattle.machine.specs.Bases.{World}
+use Rattle.session.proofs.BoundLemmas.{asks_nothing, same_bound}
 use Rattle.session.proofs.EvalLemmas.{came_back, came_fault, fault_reached, no_fault}
 use Rattle.session.proofs.evaluating.evaluate_words.Goals as goal
 
@@ -27,10 +30,22 @@ pub returns-clause-came : goal.returns-clause-came
 returns-clause-came g c =
     let s = c.args.store.now in
     came_back s c.follow-end.new.store c.conclude-result.new.store _ (target_in s s.handles c.args.names.now.entries purpose.Reply c.args.head (parts_in c.args.line.now c.args.parts.now)) c.follow-end.result
-    c.requires.still c.follow-end.ensures.world c.follow-end.ensures.front c.follow-end.ensures.led c.conclude-result.ensures c.drop_temporary.ensures
+    c.requires.still c.follow-end.ensures.world c.follow-end.ensures.front c.follow-end.ensures.led c.conclude-result.ensures.came c.drop_temporary.ensures
 
 pub returns-in-Some-clause-known : goal.returns-in-Some-clause-known
 returns-in-Some-clause-known g c = ap is_known_shape (sym c.known_shape.ensures.shape) ∙ c.known_shape.ensures.known
 
 pub returns-clause-known : goal.returns-clause-known
 returns-clause-known g c = ap is_known_shape (sym c.known_shape.ensures.shape) ∙ c.known_shape.ensures.known
+
+pub returns-in-Some-clause-asked : goal.returns-in-Some-clause-asked
+returns-in-Some-clause-asked g c =
+    let s = c.args.store.now in
+    asks_nothing (most_for s.world (target_in s s.handles c.args.names.now.entries purpose.Reply c.args.head (parts_in c.args.line.now c.args.parts.now))) c.args.steps.now
+
+pub returns-clause-asked : goal.returns-clause-asked
+returns-clause-asked g c =
+    let s = c.args.store.now in
+    let led = c.follow-end.new.store in
+    same_bound _ _ c.args.steps.now c.conclude-result.new.steps
+    (ap (λ (w : World). most_for w (Ok (end_in led c.follow-end.result))) c.follow-end.ensures.world ∙ ap (most_for s.world) (sym c.follow-end.ensures.led)) c.conclude-result.ensures.asked
