@@ -1,3 +1,4 @@
+pub mod CourseSpots
 pub mod PassLemmas
 pub mod NextLemmas
 pub mod LifeLemmas

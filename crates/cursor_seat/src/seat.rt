@@ -1,5 +1,5 @@
 //! A seat in a view.
-ghost use Rattle.std.specs.Prelude.{◌≡◌, ◌<◌, ◌≤◌, ◌+◌, ◌-◌, ◌*◌, ◌^◌, IfOk, length};
+ghost use Rattle.std.specs.Prelude.{◌≡◌, ◌<◌, ◌≤◌, ◌+◌, ◌-◌, ◌^◌, IfOk, length};
 ghost use Rattle.base_store.specs.Courses.{spots_in};
 ghost use Rattle.base_store.specs.Stored.{Stored, view_in};
 ghost use Rattle.cursor_seat.specs.Lives.{to_give};
@@ -59,8 +59,8 @@ impl Seat {
         !self.seen.is_last(store, self.node)
     }
 
-    /// Whether an item is left. The seat stays where it is. The base is asked twice for each hidden candidate on the way,
-    /// and twice for the item.
+    /// Whether an item is left. The seat stays where it is. The base is asked once for each hidden candidate on the way,
+    /// and once more.
     ///
     /// # Errors
     ///
@@ -68,7 +68,7 @@ impl Seat {
     pub fn has_next<L: Ledger>(&self, store: &Store, steps: &mut Steps<L>) -> Result<bool, Refusal>
         requires { Fits store.now self.now }
         ensures answer { result ≡ iterators.has_next store.now.world (iterator_in store.now self.now) }
-        ensures steps { steps.new ≤ steps.old + 2 * (hidden_ahead (ahead_of store.now self.now) + 1) }
+        ensures steps { steps.new ≤ steps.old + hidden_ahead (ahead_of store.now self.now) + 1 }
     {
         if self.is_stale(store) {
             return Err(Refusal::ConcurrentModification);
@@ -90,7 +90,7 @@ impl Seat {
         ensures came { NextCame result store.now self.old self.new }
         ensures fits { Fits store.now self.new }
         ensures node { self.new.node ≡ self.old.node }
-        ensures steps { steps.new ≤ steps.old + 2 * (hidden_ahead (ahead_of store.now self.old) + 1) }
+        ensures steps { steps.new ≤ steps.old + hidden_ahead (ahead_of store.now self.old) + 1 }
     {
         if self.is_stale(store) {
             return Err(Refusal::ConcurrentModification);

@@ -1,5 +1,5 @@
 //! The first shown candidate behind a place.
-ghost use Rattle.std.specs.Prelude.{◌≡◌, ◌<◌, ◌≤◌, ◌+◌, ◌*◌, IfNone, IfSome, None, drop, length};
+ghost use Rattle.std.specs.Prelude.{◌≡◌, ◌<◌, ◌≤◌, ◌+◌, IfNone, IfSome, None, drop, length};
 ghost use Rattle.base_store.specs.Stored.{view_in};
 ghost use Rattle.cursor_seat.specs.Seats.{IsSought, hidden_ahead, places_in};
 ghost use Rattle.cursor_seat.specs.Stands.{IsLast};
@@ -35,7 +35,7 @@ pub(crate) fn seek<L: Ledger>(
     requires last { IsLast (places_in store.now n) from last }
     ensures none { IfNone result (first_seen from (drop from (candidates store.now.world (view_in store.now n))) ≡ None) }
     ensures some { IfSome result (λ it. IsSought store.now n from it) }
-    ensures steps { steps.new ≤ steps.old + 2 * (hidden_ahead (drop from (candidates store.now.world (view_in store.now n))) + 1) }
+    ensures steps { steps.new ≤ steps.old + hidden_ahead (drop from (candidates store.now.world (view_in store.now n))) + 1 }
 {
     is_there(store, n);
     let _rows = store.len(store.base_of(n));

@@ -1,4 +1,4 @@
-use Rattle.std.proofs.Common.{◌≡◌, ◌≤◌, ◌+◌, ◌*◌, drop, length}
+use Rattle.std.proofs.Common.{◌≡◌, ◌≤◌, ◌+◌, drop, length}
 use Rattle.base_store.specs.Stored.{view_in}
 use Rattle.cursor_seat.specs.Seats.{hidden_ahead, places_in}
 use Rattle.cursor_seat.specs.Stands.{IsLast}
@@ -10,7 +10,7 @@ abbrev pub invariant-loop-place : goal.invariant-loop-place
 invariant-loop-place g l = record {
   last : IsLast (places_in l.store l.n) l.passed l.before;
   first : first_seen l.passed (drop l.passed (candidates l.store.world (view_in l.store l.n))) ≡ first_seen l.fn.from (drop l.fn.from (candidates l.store.world (view_in l.store l.n)));
-  steps : l.steps + 2 * hidden_ahead (drop l.passed (candidates l.store.world (view_in l.store l.n))) ≤ l.fn.steps + 2 * hidden_ahead (drop l.fn.from (candidates l.store.world (view_in l.store l.n)));
+  steps : l.steps + hidden_ahead (drop l.passed (candidates l.store.world (view_in l.store l.n))) ≤ l.fn.steps + hidden_ahead (drop l.fn.from (candidates l.store.world (view_in l.store l.n)));
 }
 
 abbrev pub decreases-loop-place : goal.decreases-loop-place
