@@ -1,5 +1,5 @@
 #!/usr/bin/env python3
-"""What a line of a script costs: instructions per line, and memory per handle.
+"""What a line of a script costs: instructions per line, and memory per row.
 
 usage: count.py PROGRAM [NAME ..]
 
@@ -51,12 +51,10 @@ INSTRUCTIONS = [
     Work("walk: removeAll of 1,000 that are not there", SET + ["new l ArrayList"] + numbered("l.add(k{i})"), "s.removeAll(l)", 20),
 ]
 
+# The greatest resident size is at least that of this process, so rows are counted by the hundred thousand, and handles,
+# of which there are at most 65,536, not at all.
 MEMORY = [
-    Work("handle: a base", [], "new b{i} LinkedHashMap", 16000),
-    Work("handle: a view of one step", ["new m LinkedHashMap"], "let v{i} = m.keySet", 16000),
-    Work("handle: a filter", ["new m LinkedHashMap"], "let v{i} = m.filterKeys(and(gt(5), lt(9)))", 16000),
-    Work("row: of a linked map", ["new m LinkedHashMap"], "m.put({i}, {i})", 100000),
-    Work("row: of a sorted map", ["new m TreeMap"], "m.put({i}, {i})", 100000),
+    Work("row: of a linked map", ["new m LinkedHashMap"], "m.put({i}, {i})", 400000),
 ]
 
 
