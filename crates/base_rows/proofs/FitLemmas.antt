@@ -22,3 +22,4 @@ all_fit (types.LinkedHashMap rows) = each_fits kind.LinkedHashMap entry_of (λ x
 all_fit (types.TreeMap rows) = each_fits kind.TreeMap entry_of (λ x. tt {0}) rows
 all_fit (types.TreeMapReverse rows) = each_fits kind.TreeMapReverse entry_of (λ x. tt {0}) rows
 all_fit (types.TreeMapLength rows) = each_fits kind.TreeMapLength entry_of (λ x. tt {0}) rows
+all_fit (types.HashBiMap rows) = each_fits kind.HashBiMap entry_of (λ x. tt {0}) rows

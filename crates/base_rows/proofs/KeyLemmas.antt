@@ -91,14 +91,14 @@ module _ {V : Type 0} where
       let there = in_turned back (keys_of rows) k at.0 at.1 in
       present_at rows there.0 k there.1
 
-  pub follows_last : (rows : List (Elem × V)) (back : Bool) (from r : Option Elem) → from ≡ None → back ≡ true → r ≡ last_key rows → Follows (key_line Any back (keys_of rows)) from r
-  follows_last rows back from r f b e = rw (f, b, e, all_keys true rows) (last_at rows)
+  pub follows_end : (rows : List (Elem × V)) (back : Bool) (from r : Option Elem) → from ≡ None → r ≡ cond back (last_key rows) (first_key rows) → Follows (key_line Any back (keys_of rows)) from r
+  follows_end rows true from r f e = rw (f, e, all_keys true rows) (last_at rows)
+  follows_end rows false from r f e = rw (f, e, all_keys false rows) (first_at rows)
 
-  pub follows_before : (rows : List (Elem × V)) (back : Bool) (from r : Option Elem) (k : Elem) → HasDistinctKeys rows → from ≡ Some k → back ≡ true → r ≡ key_before (same k) rows → Follows (key_line Any back (keys_of rows)) from r
-  follows_before rows back from r k d f b e = rw (f, b, e, all_keys true rows) (λ i is. before_from_back rows k i d is)
-
-  pub follows_after : (rows : List (Elem × V)) (back : Bool) (from r : Option Elem) (k : Elem) → HasDistinctKeys rows → from ≡ Some k → back ≡ false → r ≡ key_after (same k) rows → Follows (key_line Any back (keys_of rows)) from r
-  follows_after rows back from r k d f b e = rw (f, b, e, all_keys false rows) (λ i is. after_at rows k i d is)
+  pub follows_next : (rows : List (Elem × V)) (back : Bool) (from r : Option Elem) (k : Elem) → HasDistinctKeys rows → from ≡ Some k → r ≡ cond back (key_before (same k) rows) (key_after (same k) rows)
+      → Follows (key_line Any back (keys_of rows)) from r
+  follows_next rows true from r k d f e = rw (f, e, all_keys true rows) (λ i is. before_from_back rows k i d is)
+  follows_next rows false from r k d f e = rw (f, e, all_keys false rows) (λ i is. after_at rows k i d is)
 
   -- ---- one key asked for
 

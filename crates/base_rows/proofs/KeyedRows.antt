@@ -2,11 +2,13 @@
 use Rattle.std.proofs.Common.{◌≡◌, ℕ, ◌+◌, Bool, true, false, not, cond, List, [], ◌∷◌, length, map, Option, Result, Ok, Err, refl, ap, sym, ◌∙◌, subst}
 use Rattle.std.specs.Prelude.{find, is_some, slice_get, None, Some, option_map, OnErr}
 use Rattle.std.specs.List.{IsDistinct}
+use Rattle.std.specs.Map.{keys_of}
 use Rattle.std.proofs.lemmas.Simd.{map-map}
 use Rattle.elem.specs.declared.elements.Elem.{Elem}
 use Rattle.elem.specs.Elements.{same}
 use Rattle.elem.specs.ElementLaws.{same-Decides}
 use Rattle.elem.specs.Keyed.{value_at}
+use Rattle.bimap_base.specs.Pairs.{turned}
 use Rattle.base_rows.specs.declared.base_rows.BaseRows.{BaseRows}
 use Rattle.base_rows.specs.declared.base_rows.BaseRows.TheVariants as types
 use Rattle.base_rows.specs.Adding.{is_one_more}
@@ -20,17 +22,13 @@ use Rattle.vocabulary.specs.declared.items.Item.{Item}
 use Rattle.vocabulary.specs.declared.items.Item.TheVariants.{One, Entry}
 use Rattle.view_laws.specs.declared.places.RowSpot.{RowSpot}
 use Rattle.view_laws.specs.declared.places.RowSpot.TheVariants.{Index, Key}
-use Rattle.vocabulary.specs.Items.{key_of}
+use Rattle.vocabulary.specs.declared.items.Side.TheVariants.{First, Second}
+use Rattle.vocabulary.specs.Items.{key_of, second_of}
 use Rattle.vocabulary.specs.Kinds.{shape_of_kind}
 use Rattle.vocabulary.specs.Known.{is_known_kind}
 use Rattle.view_laws.specs.Following.{IsFrom}
 use Rattle.view_laws.specs.Spots.{row_at}
-use Rattle.vocabulary.specs.declared.items.Side.TheVariants.{First, Second}
 use Rattle.vocabulary.specs.Shapes.{is_bimap, is_keyed}
-use Rattle.view_laws.specs.declared.lanes.Lane.{Lane}
-use Rattle.view_laws.specs.declared.lanes.PartAsk.{PartAsk}
-use Rattle.view_laws.specs.declared.lanes.PartAsk.TheVariants.{Any, Is, Within, Nothing}
-use Rattle.view_laws.specs.Serving.{Serves, ServesPart}
 use Rattle.base_rows.proofs.SpotsTold.{at_index, at_key, row_at_index, row_at_key}
 
 -- each is of a known kind
@@ -44,6 +42,7 @@ known_rows (types.LinkedHashMap rows) = refl
 known_rows (types.TreeMap rows) = refl
 known_rows (types.TreeMapReverse rows) = refl
 known_rows (types.TreeMapLength rows) = refl
+known_rows (types.HashBiMap rows) = refl
 
 -- all but a list go by key
 pub keyed_but_list : (r : BaseRows) → ((rows : List Elem) → r ≡ types.ArrayList rows → ⊥) → is_keyed (shape_of_kind (kind_of r)) ≡ true
@@ -56,6 +55,7 @@ keyed_but_list (types.LinkedHashMap rows) other = refl
 keyed_but_list (types.TreeMap rows) other = refl
 keyed_but_list (types.TreeMapReverse rows) other = refl
 keyed_but_list (types.TreeMapLength rows) other = refl
+keyed_but_list (types.HashBiMap rows) other = refl
 
 -- ---- the keys of the rows
 
@@ -75,39 +75,47 @@ keys_of_rows (types.LinkedHashMap rows) h = keys_of_entries rows
 keys_of_rows (types.TreeMap rows) h = keys_of_entries rows
 keys_of_rows (types.TreeMapReverse rows) h = keys_of_entries rows
 keys_of_rows (types.TreeMapLength rows) h = keys_of_entries rows
+keys_of_rows (types.HashBiMap rows) h = keys_of_entries rows
 
--- none is a bimap, in which values tell rows apart, too
-pub no_bimap : (r : BaseRows) → is_bimap (shape_of_kind (kind_of r)) ≡ false
-no_bimap (types.ArrayList rows) = refl
-no_bimap (types.LinkedHashSet rows) = refl
-no_bimap (types.TreeSet rows) = refl
-no_bimap (types.TreeSetReverse rows) = refl
-no_bimap (types.TreeSetLength rows) = refl
-no_bimap (types.LinkedHashMap rows) = refl
-no_bimap (types.TreeMap rows) = refl
-no_bimap (types.TreeMapReverse rows) = refl
-no_bimap (types.TreeMapLength rows) = refl
+-- the values by which rows are found: those of a bimap
+abbrev values_in : BaseRows → List Elem
+values_in (types.HashBiMap rows) = keys_of (turned rows)
+values_in other = []
 
-never : (b : Bool) → b ≡ false → b ≡ true → ⊥
-never b off on = let e : false ≡ true = sym off ∙ on in cc
+values_of_rows : (r : BaseRows) → is_bimap (shape_of_kind (kind_of r)) ≡ true → map second_of (rows_of r) ≡ values_in r
+values_of_rows (types.HashBiMap rows) h = map-map second_of entry_of rows ∙ sym (map-map (λ (row : Elem × Elem). row.0) (λ (row : Elem × Elem). (row.1, row.0)) rows)
+values_of_rows (types.ArrayList rows) h = cc
+values_of_rows (types.LinkedHashSet rows) h = cc
+values_of_rows (types.TreeSet rows) h = cc
+values_of_rows (types.TreeSetReverse rows) h = cc
+values_of_rows (types.TreeSetLength rows) h = cc
+values_of_rows (types.LinkedHashMap rows) h = cc
+values_of_rows (types.TreeMap rows) h = cc
+values_of_rows (types.TreeMapReverse rows) h = cc
+values_of_rows (types.TreeMapLength rows) h = cc
 
--- its keys differ where those of the rows do
-pub has_keys : (r : BaseRows) → IsDistinct same (keys_in r) → HasKeys (plain r)
-has_keys r d = by
-  where
-    by : HasKeys (plain r)
-    by First keyed = subst (IsDistinct same) (sym (keys_of_rows r keyed)) d
-    by Second bimap = absurd (never (is_bimap (shape_of_kind (kind_of r))) (no_bimap r) bimap)
+-- its keys and its values differ where those of the rows do
+pub has_keys : (r : BaseRows) → IsDistinct same (keys_in r) → IsDistinct same (values_in r) → HasKeys (plain r)
+has_keys r keys values First = λ keyed. subst (IsDistinct same) (sym (keys_of_rows r keyed)) keys
+has_keys r keys values Second = λ bimap. subst (IsDistinct same) (sym (values_of_rows r bimap)) values
 
--- a lane that one serves asks of its keys alone
-pub of_keys_alone : (r : BaseRows) (lane : Lane) → Serves (kind_of r) lane → lane.second ≡ Any
-of_keys_alone r lane serves = by lane.second serves.values
-  where
-    by : (ask : PartAsk) → ServesPart (kind_of r) Second ask → ask ≡ Any
-    by Any s = refl
-    by (Is x) s = absurd (never (is_bimap (shape_of_kind (kind_of r))) (no_bimap r) s)
-    by (Within order w) s = absurd s
-    by Nothing s = absurd s
+-- where there is no bimap, its keys alone
+pub has_keys_alone : (r : BaseRows) → is_bimap (shape_of_kind (kind_of r)) ≡ false → IsDistinct same (keys_in r) → HasKeys (plain r)
+has_keys_alone r other keys First = λ keyed. subst (IsDistinct same) (sym (keys_of_rows r keyed)) keys
+has_keys_alone r other keys Second = λ bimap. absurd (let e : false ≡ true = sym other ∙ bimap in cc)
+
+-- only a bimap is one
+pub bimap_alone : (r : BaseRows) → ((rows : List (Elem × Elem)) → r ≡ types.HashBiMap rows → ⊥) → is_bimap (shape_of_kind (kind_of r)) ≡ false
+bimap_alone (types.HashBiMap rows) other = absurd (other rows refl)
+bimap_alone (types.ArrayList rows) other = refl
+bimap_alone (types.LinkedHashSet rows) other = refl
+bimap_alone (types.TreeSet rows) other = refl
+bimap_alone (types.TreeSetReverse rows) other = refl
+bimap_alone (types.TreeSetLength rows) other = refl
+bimap_alone (types.LinkedHashMap rows) other = refl
+bimap_alone (types.TreeMap rows) other = refl
+bimap_alone (types.TreeMapReverse rows) other = refl
+bimap_alone (types.TreeMapLength rows) other = refl
 
 -- ---- the row of a key
 
@@ -139,29 +147,29 @@ entry_found rows k = item_found Entry (λ k v. refl) rows k
 abbrev IsFoundBy : {V : Type 0} → (Elem → V → Item) → List Item → List (Elem × V) → Type 0
 IsFoundBy row_of items rows = (k : Elem) → find (λ row. same k (key_of row)) items ≡ option_map (row_of k) (value_at rows k)
 
-one_more : {V : Type 0} (row_of : Elem → V → Item) (rows : List (Elem × V)) (self : BaseRows) (spot : Spot) (item : Item) → IsFoundBy row_of (rows_of self) rows → is_keyed (shape_of_kind (kind_of self)) ≡ true → IsSpotIn (kind_of self) (length (rows_of self)) spot
+one_more : {V : Type 0} (row_of : Elem → V → Item) (rows : List (Elem × V)) (self : BaseRows) (spot : Spot) (item : Item) → IsFoundBy row_of (rows_of self) rows → is_keyed (shape_of_kind (kind_of self)) ≡ true → is_bimap (shape_of_kind (kind_of self)) ≡ false → IsSpotIn (kind_of self) (length (rows_of self)) spot
     → value_at rows (key_of item) ≡ None → is_one_more (kind_of self) spot (rows_of self) item ≡ true
-one_more row_of rows self Own item found keyed is none =
+one_more row_of rows self Own item found keyed other is none =
     ap (λ (b : Bool). cond b (not (is_some (find (λ row. same (key_of item) (key_of row)) (rows_of self)))) true) keyed
     ∙ ap (λ (x : Option Item). not (is_some x)) (found (key_of item)) ∙ ap (λ x. not (is_some (option_map (row_of (key_of item)) x))) none
-one_more row_of rows self (Before i) item found keyed is none = let f = is.0 in absurd (cc)
-one_more row_of rows self (Instead i) item found keyed is none = let f = is.0 in absurd (cc)
-one_more row_of rows self Swapped item found keyed is none = absurd is
-one_more row_of rows self (InKey i) item found keyed is none = absurd is
+one_more row_of rows self (Before i) item found keyed other is none = let f = is.0 in absurd (cc)
+one_more row_of rows self (Instead i) item found keyed other is none = let f = is.0 in absurd (cc)
+one_more row_of rows self Swapped item found keyed other is none = let f = sym other ∙ is in absurd (cc)
+one_more row_of rows self (InKey i) item found keyed other is none = absurd is
 
 -- so a row for which a set or a map had no memory is one more
-wants : {V E : Type 0} (row_of : Elem → V → Item) (rows : List (Elem × V)) (self : BaseRows) (spot : Spot) (item : Item) (r : Result (Unit {0}) E) → IsFoundBy row_of (rows_of self) rows → is_keyed (shape_of_kind (kind_of self)) ≡ true
+wants : {V E : Type 0} (row_of : Elem → V → Item) (rows : List (Elem × V)) (self : BaseRows) (spot : Spot) (item : Item) (r : Result (Unit {0}) E) → IsFoundBy row_of (rows_of self) rows → is_keyed (shape_of_kind (kind_of self)) ≡ true → is_bimap (shape_of_kind (kind_of self)) ≡ false
     → IsSpotIn (kind_of self) (length (rows_of self)) spot → OnErr r (value_at rows (key_of item) ≡ None) → OnErr r (is_one_more (kind_of self) spot (rows_of self) item ≡ true)
-wants row_of rows self spot item (Ok u) found keyed is none = tt
-wants row_of rows self spot item (Err why) found keyed is none = one_more row_of rows self spot item found keyed is none
+wants row_of rows self spot item (Ok u) found keyed other is none = tt
+wants row_of rows self spot item (Err why) found keyed other is none = one_more row_of rows self spot item found keyed other is none
 
-pub set_wants : {E : Type 0} (rows : List (Elem × Unit {0})) (self : BaseRows) (spot : Spot) (item : Item) (r : Result (Unit {0}) E) → rows_of self ≡ map member_of rows → is_keyed (shape_of_kind (kind_of self)) ≡ true → IsSpotIn (kind_of self) (length (rows_of self)) spot
+pub set_wants : {E : Type 0} (rows : List (Elem × Unit {0})) (self : BaseRows) (spot : Spot) (item : Item) (r : Result (Unit {0}) E) → rows_of self ≡ map member_of rows → is_keyed (shape_of_kind (kind_of self)) ≡ true → is_bimap (shape_of_kind (kind_of self)) ≡ false → IsSpotIn (kind_of self) (length (rows_of self)) spot
     → OnErr r (value_at rows (key_of item) ≡ None) → OnErr r (is_one_more (kind_of self) spot (rows_of self) item ≡ true)
-set_wants rows self spot item r are keyed is none = wants (λ k u. One k) rows self spot item r (λ k. ap (find (λ row. same k (key_of row))) are ∙ member_found rows k) keyed is none
+set_wants rows self spot item r are keyed other is none = wants (λ k u. One k) rows self spot item r (λ k. ap (find (λ row. same k (key_of row))) are ∙ member_found rows k) keyed other is none
 
-pub map_wants : {E : Type 0} (rows : List (Elem × Elem)) (self : BaseRows) (spot : Spot) (item : Item) (r : Result (Unit {0}) E) → rows_of self ≡ map entry_of rows → is_keyed (shape_of_kind (kind_of self)) ≡ true → IsSpotIn (kind_of self) (length (rows_of self)) spot
+pub map_wants : {E : Type 0} (rows : List (Elem × Elem)) (self : BaseRows) (spot : Spot) (item : Item) (r : Result (Unit {0}) E) → rows_of self ≡ map entry_of rows → is_keyed (shape_of_kind (kind_of self)) ≡ true → is_bimap (shape_of_kind (kind_of self)) ≡ false → IsSpotIn (kind_of self) (length (rows_of self)) spot
     → OnErr r (value_at rows (key_of item) ≡ None) → OnErr r (is_one_more (kind_of self) spot (rows_of self) item ≡ true)
-map_wants rows self spot item r are keyed is none = wants Entry rows self spot item r (λ k. ap (find (λ row. same k (key_of row))) are ∙ entry_found rows k) keyed is none
+map_wants rows self spot item r are keyed other is none = wants Entry rows self spot item r (λ k. ap (find (λ row. same k (key_of row))) are ∙ entry_found rows k) keyed other is none
 
 -- ---- spots of a list, and of a set or a map
 
@@ -190,6 +198,7 @@ key_is_keyed (types.LinkedHashMap rows) s k h e = refl
 key_is_keyed (types.TreeMap rows) s k h e = refl
 key_is_keyed (types.TreeMapReverse rows) s k h e = refl
 key_is_keyed (types.TreeMapLength rows) s k h e = refl
+key_is_keyed (types.HashBiMap rows) s k h e = refl
 
 -- only a list has spots by index
 pub index_is_in_list : (r : BaseRows) (s : RowSpot) (i : ℕ) → ((rows : List Elem) → r ≡ types.ArrayList rows → ⊥) → IsFrom (base_spots r) (Some s) → s ≡ Index i → ⊥

@@ -18,3 +18,5 @@ pub mod FitLemmas
 pub mod ReachLemmas
 pub mod KeyDrops
 pub mod WindowDrops
+pub mod PairLemmas
+pub mod PairPuts

@@ -15,9 +15,9 @@ use Rattle.view_laws.specs.declared.places.RowSpot.TheVariants.{Index}
 use Rattle.view_laws.specs.Following.{Follows, IsFrom}
 use Rattle.view_laws.specs.Lanes.{meets, takes, turned_if}
 use Rattle.view_laws.specs.RowPlaces.{spots_taken}
-use Rattle.vocabulary.specs.declared.items.Side.TheVariants.{First}
-use Rattle.view_laws.specs.Serving.{Serves, ServesPart}
+use Rattle.view_laws.specs.Serving.{ServesPart}
 use Rattle.vocabulary.specs.declared.items.Item.{Item}
+use Rattle.vocabulary.specs.declared.items.Side.TheVariants.{First}
 use Rattle.vocabulary.specs.Items.{key_of, second_of}
 use Rattle.base_rows.proofs.KeyedRows.{index_in_list}
 use Rattle.base_rows.proofs.MemberLemmas.{in_turned}
@@ -71,8 +71,8 @@ nothing_follows back None = nothing_there back 0
 nothing_follows back (Some s) = λ i is. nothing_there back (i + 1)
 
 -- a list serves a lane of all its rows, and one of none
-pub list_serves : (r : BaseRows) (rows : List Elem) (lane : Lane) (back : Bool) (from : Option RowSpot) → r ≡ types.ArrayList rows → Serves (kind_of r) lane → (lane.first ≡ Any → ⊥) → Follows (base_line r lane back) from None
-list_serves r rows lane back from e serves other = by lane.first refl (subst (λ x. ServesPart (kind_of x) First lane.first) e serves.keys)
+pub list_serves : (r : BaseRows) (rows : List Elem) (lane : Lane) (back : Bool) (from : Option RowSpot) → r ≡ types.ArrayList rows → ServesPart (kind_of r) First lane.first → (lane.first ≡ Any → ⊥) → Follows (base_line r lane back) from None
+list_serves r rows lane back from e serves other = by lane.first refl (subst (λ x. ServesPart (kind_of x) First lane.first) e serves)
   where
     by : (ask : PartAsk) → lane.first ≡ ask → ServesPart (kind_of (types.ArrayList rows)) First ask → Follows (base_line r lane back) from None
     by Any is s = absurd (other is)

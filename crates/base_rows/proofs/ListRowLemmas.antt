@@ -47,7 +47,7 @@ pub index_within : (spot : Spot) (size : ℕ) → IsSpotIn ArrayList size spot �
 index_within Own size is = omega arith
 index_within (Before i) size is = is.1
 index_within (Instead i) size is = let h = is.1 in omega arith
-index_within Swapped size is = absurd is
+index_within Swapped size is = absurd (cc)
 index_within (InKey i) size is = absurd is
 
 pub stands : (spot : Spot) (rows added : List Item) → IsSpotIn ArrayList (length rows) spot → IsFree spot → Stands (index_in spot (length rows)) rows (placed_all ArrayList rows (coming spot added)) (length added)
@@ -66,7 +66,7 @@ pub still_spot : (n m : ℕ) (spot : Spot) → n ≤ m → IsSpotIn ArrayList n 
 still_spot n m Own h is = tt
 still_spot n m (Before i) h is = (is.0, (let k : i ≤ m = omega (arith, is.1) in k))
 still_spot n m (Instead i) h is = (is.0, (let k : i < m = omega (arith, is.1) in k))
-still_spot n m Swapped h is = absurd is
+still_spot n m Swapped h is = absurd (cc)
 still_spot n m (InKey i) h is = absurd is
 
 pub counted_rows : (spot : Spot) (old now : List Elem) (added : List Item) → IsSpotIn ArrayList (length old) spot → IsFree spot → items now ≡ placed_all ArrayList (items old) (coming spot added) → length now ≡ length old + length added

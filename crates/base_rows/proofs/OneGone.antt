@@ -5,10 +5,10 @@ use Rattle.std.proofs.lemmas.Bool.Decides.{nat_tests}
 use Rattle.vocabulary.specs.declared.items.Item.{Item}
 use Rattle.machine.specs.Edits.{goes, without_rows}
 
-nat_other : (a b : ℕ) → a ≢ b → nat_eq a b ≡ false
+pub nat_other : (a b : ℕ) → a ≢ b → nat_eq a b ≡ false
 nat_other a b h = grind (arith, nat_tests)
 
-nat_same : (a b : ℕ) → a ≡ b → nat_eq a b ≡ true
+pub nat_same : (a b : ℕ) → a ≡ b → nat_eq a b ≡ true
 nat_same a b h = grind (arith, nat_tests)
 
 stays : (g n : ℕ) → g ≢ n → goes (g ∷ []) n ≡ false

@@ -24,7 +24,7 @@ use Rattle.machine.specs.Placing.{follows, placed, placed_at, precedes, replaces
 use Rattle.vocabulary.specs.declared.shapes.Shape.TheVariants as shape
 use Rattle.vocabulary.specs.Items.{key_of, value_of}
 use Rattle.vocabulary.specs.Kinds.{shape_of_kind}
-use Rattle.vocabulary.specs.Shapes.{is_keyed}
+use Rattle.vocabulary.specs.Shapes.{is_bimap, is_keyed}
 
 -- no key comes before another: rows that stand in the order in which they came
 abbrev pub never : Elem → Elem → Bool
@@ -165,13 +165,13 @@ module _ {V : Type 0} where
     linked_rows rows (item ∷ added) fits =
         linked_rows (with_item inserted_last value_in rows item) added fits.1 ∙ ap (λ (now : List Item). placed_all kind now (coming Own added)) (linked_row rows item fits.0)
 
--- a set and a map have no spots by number
-pub own_spot : (kind : Kind) (size : ℕ) (spot : Spot) → is_keyed (shape_of_kind kind) ≡ true → IsSpotIn kind size spot → placed_at kind spot ≡ placed kind
-own_spot kind size Own keyed is = refl
-own_spot kind size Swapped keyed is = absurd is
-own_spot kind size (InKey i) keyed is = absurd is
-own_spot kind size (Before i) keyed is = let f = is.0 in absurd (cc)
-own_spot kind size (Instead i) keyed is = let f = is.0 in absurd (cc)
+-- a set and a map have no spots by number, nor by value
+pub own_spot : (kind : Kind) (size : ℕ) (spot : Spot) → is_keyed (shape_of_kind kind) ≡ true → is_bimap (shape_of_kind kind) ≡ false → IsSpotIn kind size spot → placed_at kind spot ≡ placed kind
+own_spot kind size Own keyed other is = refl
+own_spot kind size Swapped keyed other is = let f = sym other ∙ is in absurd (cc)
+own_spot kind size (InKey i) keyed other is = absurd is
+own_spot kind size (Before i) keyed other is = let f = is.0 in absurd (cc)
+own_spot kind size (Instead i) keyed other is = let f = is.0 in absurd (cc)
 
 -- rows that come to one spot come there one after another
 pub one_by_one : (kind : Kind) (spot : Spot) (rows added : List Item) → placed_all kind rows (coming spot added) ≡ fold (placed_at kind spot) rows added
@@ -248,17 +248,18 @@ pub record Holds {V : Type 0} (self : BaseRows) (k : Kind) (row_of : Elem → V 
   pub kind_is : kind_of self ≡ k
   pub rows_are : rows_of self ≡ items_by row_of rows
   pub by_key : is_keyed (shape_of_kind k) ≡ true
+  pub no_bimap : is_bimap (shape_of_kind k) ≡ false
 
 module _ {V : Type 0} {self : BaseRows} {k : Kind} {row_of : Elem → V → Item} {old : List (Elem × V)} (h : Holds self k row_of old) where
   -- the same said of the base
   placed_in : (spot : Spot) (item : Item) (new : List Item) → IsSpotIn (kind_of self) (length (rows_of self)) spot → new ≡ placed k (items_by row_of old) item → new ≡ placed_at (kind_of self) spot (rows_of self) item
   placed_in spot item new is e =
-      e ∙ sym (ap (λ (f : List Item → Item → List Item). f (items_by row_of old) item) (own_spot k (length (rows_of self)) spot h.by_key (subst (λ (j : Kind). IsSpotIn j (length (rows_of self)) spot) h.kind_is is)))
+      e ∙ sym (ap (λ (f : List Item → Item → List Item). f (items_by row_of old) item) (own_spot k (length (rows_of self)) spot h.by_key h.no_bimap (subst (λ (j : Kind). IsSpotIn j (length (rows_of self)) spot) h.kind_is is)))
       ∙ (λ i. placed_at (sym h.kind_is i) spot (sym h.rows_are i) item)
 
   all_placed_in : (spot : Spot) (added new : List Item) → IsSpotIn (kind_of self) (length (rows_of self)) spot → new ≡ placed_all k (items_by row_of old) (coming Own added) → new ≡ placed_all (kind_of self) (rows_of self) (coming spot added)
   all_placed_in spot added new is e =
-      e ∙ one_by_one k Own (items_by row_of old) added ∙ sym (ap (λ (f : List Item → Item → List Item). fold f (items_by row_of old) added) (own_spot k (length (rows_of self)) spot h.by_key (subst (λ (j : Kind). IsSpotIn j (length (rows_of self)) spot) h.kind_is is)))
+      e ∙ one_by_one k Own (items_by row_of old) added ∙ sym (ap (λ (f : List Item → Item → List Item). fold f (items_by row_of old) added) (own_spot k (length (rows_of self)) spot h.by_key h.no_bimap (subst (λ (j : Kind). IsSpotIn j (length (rows_of self)) spot) h.kind_is is)))
       ∙ sym (one_by_one k spot (items_by row_of old) added)
       ∙ (λ i. placed_all (sym h.kind_is i) (sym h.rows_are i) (coming spot added))
 

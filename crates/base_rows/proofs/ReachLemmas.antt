@@ -6,6 +6,7 @@ use Rattle.base_rows.specs.BaseRows.{kind_of}
 use Rattle.base_rows.specs.KeyLines.{HasWindowIn}
 use Rattle.vocabulary.specs.declared.items.Item.{Item}
 use Rattle.vocabulary.specs.declared.kinds.Kind.{Kind}
+use Rattle.vocabulary.specs.declared.items.Side.TheVariants.{First}
 use Rattle.vocabulary.specs.Items.{key_of, second_of}
 use Rattle.vocabulary.specs.Kinds.{order_of_kind, shape_of_kind}
 use Rattle.vocabulary.specs.Orders.{before, upto}
@@ -14,7 +15,6 @@ use Rattle.view_laws.specs.declared.lanes.PartAsk.{PartAsk}
 use Rattle.view_laws.specs.declared.lanes.PartAsk.TheVariants.{Any, Is, Within, Nothing}
 use Rattle.view_laws.specs.ItemForms.{has_form}
 use Rattle.view_laws.specs.Lanes.{meets, takes}
-use Rattle.vocabulary.specs.declared.items.Side.TheVariants.{First}
 use Rattle.view_laws.specs.Serving.{ServesPart}
 use Rattle.view_laws.proofs.ListLemmas.{both_true}
 

@@ -59,7 +59,7 @@ spots_of_keys row_of kept (row ∷ rows) = λ i. Key (kept row.0 row.1 i) ∷ sp
 
 -- ---- lines
 
-taken_keys : (test : Item → Bool) (rows : List Item) → spots_taken test (map key_spot rows) rows ≡ map key_spot (filter test rows)
+pub taken_keys : (test : Item → Bool) (rows : List Item) → spots_taken test (map key_spot rows) rows ≡ map key_spot (filter test rows)
 taken_keys test [] = refl
 taken_keys test (row ∷ rows) = by (test row) (taken_keys test rows)
   where

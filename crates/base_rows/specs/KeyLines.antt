@@ -26,6 +26,7 @@ keys_in (types.LinkedHashMap rows) = keys_of rows
 keys_in (types.TreeMap rows) = keys_of rows
 keys_in (types.TreeMapReverse rows) = keys_of rows
 keys_in (types.TreeMapLength rows) = keys_of rows
+keys_in (types.HashBiMap rows) = keys_of rows
 
 -- those of some keys that are as asked, from the front or from the back
 abbrev pub key_line : PartAsk → Bool → List Elem → List Elem

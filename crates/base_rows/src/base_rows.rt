@@ -7,9 +7,11 @@ ghost use Rattle.vocabulary.specs.Known.{is_known_kind};
 ghost use Rattle.vocabulary.specs.Shapes.{is_keyed};
 
 mod dropping;
+mod found_rows;
 mod placing;
 mod reading;
 
+use bimap_base::PairRows;
 use elem::{ByLength, Elem, Keyed, NoMemory, Reverse};
 use linked_base::{LinkedMap, LinkedSet};
 use plain_base::{ArrayRows, TreeMapRows, TreeSetRows};
@@ -28,6 +30,7 @@ pub enum BaseRows {
     TreeMap(TreeMapRows<Elem>),
     TreeMapReverse(TreeMapRows<Elem, Reverse>),
     TreeMapLength(TreeMapRows<Elem, ByLength>),
+    HashBiMap(PairRows),
 }
 
 impl BaseRows {
@@ -47,6 +50,7 @@ impl BaseRows {
             Kind::TreeMap => Ok(BaseRows::TreeMap(TreeMapRows::new(alloc))),
             Kind::TreeMapReverse => Ok(BaseRows::TreeMapReverse(TreeMapRows::new(alloc))),
             Kind::TreeMapLength => Ok(BaseRows::TreeMapLength(TreeMapRows::new(alloc))),
+            Kind::HashBiMap => Ok(BaseRows::HashBiMap(PairRows::new(alloc)?)),
             _ => unreachable!(),
         }
     }
@@ -65,11 +69,12 @@ impl BaseRows {
             BaseRows::TreeMap(_) => Kind::TreeMap,
             BaseRows::TreeMapReverse(_) => Kind::TreeMapReverse,
             BaseRows::TreeMapLength(_) => Kind::TreeMapLength,
+            BaseRows::HashBiMap(_) => Kind::HashBiMap,
         }
     }
 
     /// How many rows there are.
-    #[tactic(auto, using(crate::proofs::KeyedRows::has_keys))]
+    #[tactic(auto, using(crate::proofs::KeyedRows::has_keys, crate::proofs::KeyedRows::has_keys_alone))]
     pub fn len(&self) -> usize
         ensures len { result ≡ length (rows_of self.now) }
         ensures keys { HasKeys (plain self.now) }
@@ -84,6 +89,7 @@ impl BaseRows {
             BaseRows::TreeMap(rows) => rows.len(),
             BaseRows::TreeMapReverse(rows) => rows.len(),
             BaseRows::TreeMapLength(rows) => rows.len(),
+            BaseRows::HashBiMap(rows) => rows.len(),
         }
     }
 

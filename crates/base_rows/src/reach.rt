@@ -2,6 +2,7 @@
 
 use linked_base::FreeLinkedMap;
 use view_laws::Lane;
+use vocabulary::Side;
 
 /// The rows at which a removal looks. Outside of them none goes.
 #[derive(Clone, Copy)]
@@ -10,6 +11,6 @@ pub enum Reach<'a> {
     Whole,
     /// Those of a lane.
     Along(&'a Lane),
-    /// Those of some keys.
-    At(&'a FreeLinkedMap<()>),
+    /// Those that have one of some elements in a part: the key, or the value of a bimap.
+    At(Side, &'a FreeLinkedMap<()>),
 }

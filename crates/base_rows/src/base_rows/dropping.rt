@@ -5,9 +5,10 @@ ghost use Rattle.base_rows.specs.Reaches.{Reaches};
 ghost use Rattle.elem.specs.Keyed.{value_at};
 ghost use Rattle.vocabulary.specs.declared.items.Item.{Item as AnItem};
 ghost use Rattle.machine.specs.Edits.{without_rows};
-ghost use Rattle.vocabulary.specs.Items.{key_of};
+ghost use Rattle.vocabulary.specs.Items.{key_of, second_of};
 ghost use Rattle.base_rows.specs.BaseSpots.{IsRowAt};
 ghost use Rattle.vocabulary.specs.Kinds.{shape_of_kind};
+ghost use Rattle.vocabulary.specs.Shapes.{is_bimap};
 ghost use Rattle.view_laws.specs.Following.{IsFrom};
 ghost use Rattle.view_laws.specs.ItemForms.{has_form};
 ghost use Rattle.view_laws.specs.Lanes.{takes};
@@ -15,18 +16,23 @@ ghost use Rattle.view_laws.specs.Serving.{Serves};
 
 mod keyed;
 mod listed;
+mod pairs;
 mod windowed;
 
 use self::keyed::{drop_keys, drop_rows, remove_key};
 use self::listed::{drop_items, remove_index};
+use self::pairs::drop_values;
 use self::windowed::drop_sorted;
 use super::BaseRows;
+use super::found_rows::ByKey;
 use crate::RowTest;
 use crate::reach::Reach;
-use elem::{Keyed, Steps};
+use bimap_base::PairRows;
+use elem::{Elem, Keyed, Steps};
 use linked_base::FreeLinkedMap;
 use std::sync::ledger::Ledger;
 use view_laws::{Lane, RowSpot};
+use vocabulary::Side;
 
 impl BaseRows {
     /// Removes the row at a spot. It takes no memory.
@@ -46,6 +52,7 @@ impl BaseRows {
             BaseRows::TreeMap(rows) => remove_key(rows, at, steps),
             BaseRows::TreeMapReverse(rows) => remove_key(rows, at, steps),
             BaseRows::TreeMapLength(rows) => remove_key(rows, at, steps),
+            BaseRows::HashBiMap(rows) => remove_key(rows, at, steps),
         }
     }
 
@@ -64,6 +71,7 @@ impl BaseRows {
             BaseRows::TreeMap(rows) => rows.clear(),
             BaseRows::TreeMapReverse(rows) => rows.clear(),
             BaseRows::TreeMapLength(rows) => rows.clear(),
+            BaseRows::HashBiMap(rows) => rows.clear(),
         }
     }
 
@@ -81,7 +89,8 @@ impl BaseRows {
         match reach {
             Reach::Whole => self.clear(),
             Reach::Along(lane) => self.drop_along(lane, test, steps),
-            Reach::At(keys) => self.drop_at(keys, test, steps),
+            Reach::At(Side::First, keys) => self.drop_at(keys, test, steps),
+            Reach::At(Side::Second, values) => self.drop_of_values(values, test, steps),
         }
     }
 
@@ -102,6 +111,7 @@ impl BaseRows {
             BaseRows::TreeMap(rows) => drop_sorted(rows, &lane.first, test, steps),
             BaseRows::TreeMapReverse(rows) => drop_sorted(rows, &lane.first, test, steps),
             BaseRows::TreeMapLength(rows) => drop_sorted(rows, &lane.first, test, steps),
+            BaseRows::HashBiMap(rows) => drop_rows(rows, test, steps),
         }
     }
 
@@ -126,6 +136,27 @@ impl BaseRows {
             BaseRows::TreeMap(rows) => drop_keys(rows, keys, test, steps),
             BaseRows::TreeMapReverse(rows) => drop_keys(rows, keys, test, steps),
             BaseRows::TreeMapLength(rows) => drop_keys(rows, keys, test, steps),
+            BaseRows::HashBiMap(rows) => {
+                drop_keys::<ByKey, Elem, PairRows, T, L>(rows, keys, test, steps)
+            }
+        }
+    }
+
+    /// Removes every pair that passes a test, where each of them has one of some values.
+    fn drop_of_values<T: RowTest, L: Ledger>(
+        &mut self,
+        values: &FreeLinkedMap<()>,
+        test: &T,
+        steps: &mut Steps<L>,
+    )
+        requires bimap { is_bimap (shape_of_kind (kind_of self.old)) ≡ true }
+        requires reach { (row : AnItem) → has_form (shape_of_kind (kind_of self.old)) row ≡ true → T.passes test.now row ≡ true → is_some (value_at values.now (second_of row)) ≡ true }
+        ensures kind { kind_of self.new ≡ kind_of self.old }
+        ensures rows { rows_of self.new ≡ filter (λ row. not (T.passes test.now row)) (rows_of self.old) }
+    {
+        match self {
+            BaseRows::HashBiMap(rows) => drop_values(rows, values, test, steps),
+            _ => unreachable!(),
         }
     }
 }

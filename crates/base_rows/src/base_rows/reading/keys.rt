@@ -2,10 +2,11 @@
 ghost use Rattle.std.specs.Prelude.{◌≡◌, ◌≤◌, ◌+◌, Bool, List, IfSome, Some, true, filter, option_and_then, option_map};
 ghost use Rattle.std.specs.Map.{keys_of};
 ghost use Rattle.base_rows.specs.BaseRows.{entries, members};
-ghost use Rattle.base_rows.specs.BaseSpots.{key_spot, row_of_key};
+ghost use Rattle.base_rows.specs.BaseSpots.{key_spot, row_of_key, row_of_part};
 ghost use Rattle.base_rows.specs.Journals.{items_by};
 ghost use Rattle.elem.specs.declared.elements.Elem.{Elem as Element};
 ghost use Rattle.vocabulary.specs.Items as items;
+ghost use Rattle.vocabulary.specs.declared.items.Side.TheVariants.{Second};
 ghost use Rattle.base_rows.specs.KeyLines as spec;
 ghost use Rattle.base_rows.specs.KeyLines.{key_in, key_line, rest_of, HasNoWindow, HasWindowIn, IsOneOf};
 ghost use Rattle.view_laws.specs.Following.{Follows, IsFrom};
@@ -13,10 +14,11 @@ ghost use Rattle.view_laws.specs.Lanes.{turned_if};
 ghost use Rattle.view_laws.specs.declared.lanes.PartAsk.TheVariants as asks;
 ghost use Rattle.elem.specs.Cuts.{cut_upto, lies_between};
 
+use super::super::found_rows::{ByKey, FoundRows, WalkedRows};
 use super::super::placing::row_values::RowValue;
 use crate::SpottedRow;
+use bimap_base::PairRows;
 use elem::{Compare, Cut, Elem, Keyed, Steps, Window};
-use linked_base::LinkedMap;
 use plain_base::TreeMapRows;
 use std::sync::ledger::Ledger;
 use view_laws::{PartAsk, RowSpot};
@@ -48,19 +50,19 @@ fn spotted<V: RowValue>(row: Option<(Elem, V)>) -> Option<SpottedRow>
     }
 }
 
-/// The row that follows that of a key in a linked set or map, of those whose keys are as asked, or the first one.
-pub fn next_linked<V: RowValue, L: Ledger>(
-    rows: &LinkedMap<V>,
+/// The row that follows that of a key in a set or a map, of those whose keys are as asked, or the first one.
+pub fn next_linked<V: RowValue, K: WalkedRows<V>, L: Ledger>(
+    rows: &K,
     ask: &PartAsk,
     back: bool,
     from: Option<Elem>,
     steps: &mut Steps<L>,
 ) -> Option<SpottedRow>
     requires ask { HasNoWindow ask.now }
-    requires from { IsFrom (key_line ask.now back (keys_of rows.now)) from }
-    ensures next { Follows (key_line ask.now back (keys_of rows.now)) from (option_map (λ found. items.key_of found.row) result) }
+    requires from { IsFrom (key_line ask.now back (keys_of (K.rows rows.now))) from }
+    ensures next { Follows (key_line ask.now back (keys_of (K.rows rows.now))) from (option_map (λ found. items.key_of found.row) result) }
     ensures spot { IfSome result (λ found. found.spot ≡ key_spot found.row) }
-    ensures row { IfSome result (λ found. row_of_key (items_by V.row_of rows.now) (items.key_of found.row) ≡ Some found.row) }
+    ensures row { IfSome result (λ found. row_of_key (items_by V.row_of (K.rows rows.now)) (items.key_of found.row) ≡ Some found.row) }
     ensures step { steps.new ≤ steps.old + 1 }
 {
     spotted(linked_row(rows, ask, back, from, steps))
@@ -84,22 +86,22 @@ pub fn next_sorted<V: RowValue, C: Compare, L: Ledger>(
     spotted(sorted_row(rows, ask, back, from, steps))
 }
 
-/// The key and the value of the row that follows in a linked set or map.
-fn linked_row<V: Copy, L: Ledger>(
-    rows: &LinkedMap<V>,
+/// The key and the value of the row that follows, where no window is asked for.
+fn linked_row<V: Copy, K: WalkedRows<V>, L: Ledger>(
+    rows: &K,
     ask: &PartAsk,
     back: bool,
     from: Option<Elem>,
     steps: &mut Steps<L>,
 ) -> Option<(Elem, V)>
     requires ask { HasNoWindow ask.now }
-    requires from { IsFrom (key_line ask.now back (keys_of rows.now)) from }
-    ensures next { Follows (key_line ask.now back (keys_of rows.now)) from (key_in result) }
-    ensures row { IsOneOf rows.now result }
+    requires from { IsFrom (key_line ask.now back (keys_of (K.rows rows.now))) from }
+    ensures next { Follows (key_line ask.now back (keys_of (K.rows rows.now))) from (key_in result) }
+    ensures row { IsOneOf (K.rows rows.now) result }
     ensures step { steps.new ≤ steps.old + 1 }
 {
     match ask {
-        PartAsk::Any => next_of_linked(rows, back, from, steps),
+        PartAsk::Any => walked_row(rows, back, from, steps),
         PartAsk::Is(k) => only_row(rows, k, from, steps),
         PartAsk::Within(_, _) => None,
         PartAsk::Nothing => None,
@@ -121,57 +123,34 @@ fn sorted_row<V: Copy, C: Compare, L: Ledger>(
     ensures step { steps.new ≤ steps.old + 1 }
 {
     match ask {
-        PartAsk::Any => next_of_sorted(rows, back, from, steps),
+        PartAsk::Any => walked_row(rows, back, from, steps),
         PartAsk::Is(k) => only_row(rows, k, from, steps),
         PartAsk::Within(_, window) => next_in_window(rows, window, back, from, steps),
         PartAsk::Nothing => None,
     }
 }
 
-/// The row that follows that of a key in the order of a linked set or map, or the first one.
-fn next_of_linked<V: Copy, L: Ledger>(
-    rows: &LinkedMap<V>,
+/// The row that follows that of a key in the order of the rows, or the first one.
+fn walked_row<V: Copy, K: WalkedRows<V>, L: Ledger>(
+    rows: &K,
     back: bool,
     from: Option<Elem>,
     steps: &mut Steps<L>,
 ) -> Option<(Elem, V)>
-    requires { IsFrom (key_line asks.Any back (keys_of rows.now)) from }
-    ensures next { Follows (key_line asks.Any back (keys_of rows.now)) from (key_in result) }
-    ensures row { IsOneOf rows.now result }
+    requires { IsFrom (key_line asks.Any back (keys_of (K.rows rows.now))) from }
+    ensures next { Follows (key_line asks.Any back (keys_of (K.rows rows.now))) from (key_in result) }
+    ensures row { IsOneOf (K.rows rows.now) result }
     ensures step { steps.new ≤ steps.old + 1 }
 {
-    let _len = rows.len();
-    match (from, back) {
-        (None, false) => rows.first_row(steps),
-        (None, true) => rows.last_row(steps),
-        (Some(k), false) => rows.row_after(k, steps),
-        (Some(k), true) => rows.row_before(k, steps),
-    }
-}
-
-/// The same of a sorted set or map.
-fn next_of_sorted<V: Copy, C: Compare, L: Ledger>(
-    rows: &TreeMapRows<V, C>,
-    back: bool,
-    from: Option<Elem>,
-    steps: &mut Steps<L>,
-) -> Option<(Elem, V)>
-    requires { IsFrom (key_line asks.Any back (keys_of rows.now)) from }
-    ensures next { Follows (key_line asks.Any back (keys_of rows.now)) from (key_in result) }
-    ensures row { IsOneOf rows.now result }
-    ensures step { steps.new ≤ steps.old + 1 }
-{
-    let _len = rows.len();
-    match (from, back) {
-        (None, false) => rows.first_row(steps),
-        (None, true) => rows.last_row(steps),
-        (Some(k), false) => rows.row_after(k, steps),
-        (Some(k), true) => rows.row_before(k, steps),
+    let _count = rows.count();
+    match from {
+        None => rows.end_row(back, steps),
+        Some(k) => rows.next_row(back, &k, steps),
     }
 }
 
 /// The one row of a key, where the rows have it. None follows it.
-fn only_row<V: Copy, K: Keyed<V>, L: Ledger>(
+fn only_row<V: Copy, K: FoundRows<ByKey, V>, L: Ledger>(
     rows: &K,
     k: &Elem,
     from: Option<Elem>,
@@ -181,9 +160,9 @@ fn only_row<V: Copy, K: Keyed<V>, L: Ledger>(
     ensures row { IsOneOf (K.rows rows.now) result }
     ensures step { steps.new ≤ steps.old + 1 }
 {
-    let _len = rows.len();
+    let _count = rows.count();
     match from {
-        None => match rows.probe(*k, steps) {
+        None => match rows.find(k, steps) {
             Some(v) => Some((*k, v)),
             None => None,
         },
@@ -238,7 +217,7 @@ fn next_in_window<V: Copy, C: Compare, L: Ledger>(
 
 /// The member of a set that has a key.
 #[tactic(auto, using(crate::proofs::KeyedRows::member_found))]
-pub fn member_of_key<K: Keyed<()>, L: Ledger>(
+pub fn member_of_key<K: FoundRows<ByKey, ()>, L: Ledger>(
     rows: &K,
     k: &Elem,
     steps: &mut Steps<L>,
@@ -246,7 +225,7 @@ pub fn member_of_key<K: Keyed<()>, L: Ledger>(
     ensures row { result ≡ row_of_key (members (K.rows rows.now)) k.now }
     ensures step { steps.new ≤ steps.old + 1 }
 {
-    match rows.probe(*k, steps) {
+    match rows.find(k, steps) {
         Some(_) => Some(Item::One(*k)),
         None => None,
     }
@@ -254,7 +233,7 @@ pub fn member_of_key<K: Keyed<()>, L: Ledger>(
 
 /// The entry of a map that has a key.
 #[tactic(auto, using(crate::proofs::KeyedRows::entry_found))]
-pub fn entry_of_key<K: Keyed<Elem>, L: Ledger>(
+pub fn entry_of_key<K: FoundRows<ByKey, Elem>, L: Ledger>(
     rows: &K,
     k: &Elem,
     steps: &mut Steps<L>,
@@ -262,8 +241,20 @@ pub fn entry_of_key<K: Keyed<Elem>, L: Ledger>(
     ensures row { result ≡ row_of_key (entries (K.rows rows.now)) k.now }
     ensures step { steps.new ≤ steps.old + 1 }
 {
-    match rows.probe(*k, steps) {
+    match rows.find(k, steps) {
         Some(v) => Some(Item::Entry(*k, v)),
+        None => None,
+    }
+}
+
+/// The pair of a bimap that has a value.
+#[tactic(auto, using(crate::proofs::PairLemmas::pair_found))]
+pub fn entry_of_value<L: Ledger>(rows: &PairRows, v: &Elem, steps: &mut Steps<L>) -> Option<Item>
+    ensures row { result ≡ row_of_part Second (entries rows.now) v.now }
+    ensures step { steps.new ≤ steps.old + 1 }
+{
+    match rows.by_value(*v, steps) {
+        Some(k) => Some(Item::Entry(k, *v)),
         None => None,
     }
 }

@@ -1,49 +1,25 @@
-use Rattle.std.proofs.Common.{◌≡◌, Some, subst, sym, arith}
-use Rattle.std.specs.Prelude.{IfSome, option_map}
-use Rattle.base_rows.specs.declared.base_rows.BaseRows.{BaseRows}
-use Rattle.base_rows.specs.BaseRows.{base_line, base_spots, rows_of}
+use Rattle.std.proofs.Common.{subst, sym, arith}
+use Rattle.std.specs.Prelude.{option_map}
+use Rattle.base_rows.specs.BaseRows.{base_line, kind_of}
+use Rattle.view_laws.specs.declared.lanes.Lane.{Lane}
 use Rattle.view_laws.specs.Following.{Follows}
-use Rattle.view_laws.specs.Spots as spots
-use Rattle.vocabulary.specs.Items.{key_of}
-use Rattle.base_rows.proofs.KeyedRows.{keyed_but_list, of_keys_alone}
-use Rattle.base_rows.proofs.ListLines.{from_list, follows_in_list, list_serves}
-use Rattle.base_rows.proofs.SpotLines.{from_in_line, follows_in_line, row_of_found, spot_of_found}
+use Rattle.base_rows.proofs.PairLemmas.{no_value, of_bimap, value_lane}
 use Rattle.base_rows.proofs.base_rows.BaseRows.next_row.Goals as goal
 
-pub next_item-requires : goal.next_item-requires
-next_item-requires g c =
-    rw (c.index_at.ensures) (from_list c.args.self.now c.in-ArrayList.rows c.args.lane.now c.args.back c.args.from.now c.in-ArrayList.is c.in-Any.is (of_keys_alone c.args.self.now c.args.lane.now c.requires.serves) c.requires.from)
+pub next_by_first-requires : goal.next_by_first-requires
+next_by_first-requires g c = record { serves = c.requires.serves; values = c.in-Any.is; from = c.requires.from }
 
-pub returns-in-Any-clause-next : goal.returns-in-Any-clause-next
-returns-in-Any-clause-next g c =
-    follows_in_list c.args.self.now c.in-ArrayList.rows c.args.lane.now c.args.back c.args.from.now c.in-ArrayList.is c.in-Any.is (of_keys_alone c.args.self.now c.args.lane.now c.requires.serves) c.requires.from (option_map (λ found. found.spot) c.next_item.result)
-    (rw (c.index_at.ensures) at c.next_item.ensures.next)
+pub next_of_value-requires : goal.next_of_value-requires
+next_of_value-requires g c = record { bimap = of_bimap (kind_of c.args.self.now) c.args.lane.now c.requires.serves c.in-Is.v c.in-Is.is }
 
-pub returns-in-Any-clause-row : goal.returns-in-Any-clause-row
-returns-in-Any-clause-row g c = subst (λ (r : BaseRows). IfSome c.next_item.result (λ found. spots.row_at (base_spots r) (rows_of r) found.spot ≡ Some found.row)) (sym c.in-ArrayList.is) c.next_item.ensures.row
+pub returns-in-Is-clause-next : goal.returns-in-Is-clause-next
+returns-in-Is-clause-next g c =
+    subst (λ (lane : Lane). Follows (base_line c.args.self.now lane c.args.back) c.args.from.now (option_map (λ found. found.spot) c.next_of_value.result))
+    (sym (value_lane (kind_of c.args.self.now) c.args.lane.now c.requires.serves c.in-Is.v c.in-Is.is)) (c.next_of_value.ensures.next c.args.back)
 
-pub returns-in_default-first : goal.returns-in_default-first
-returns-in_default-first g c = record {
-  next = list_serves c.args.self.now c.in-ArrayList.rows c.args.lane.now c.args.back c.args.from.now c.in-ArrayList.is c.requires.serves c.in_default-first.not-Any;
+pub returns-in_default : goal.returns-in_default
+returns-in_default g c = record {
+  next = no_value c.args.self.now c.args.lane.now c.args.back c.args.from.now c.requires.serves.values c.in_default.not-Any c.in_default.not-Is;
   row = tt;
   step = omega arith;
 }
-
-pub next_keyed-requires : goal.next_keyed-requires
-next_keyed-requires g c =
-    let keyed = keyed_but_list c.args.self.now c.in_default.not-ArrayList in
-    record {
-      keyed = keyed;
-      serves = c.requires.serves.keys;
-      from = rw (c.key_at.ensures) (from_in_line c.args.self.now c.args.lane.now c.args.back c.args.from.now keyed (of_keys_alone c.args.self.now c.args.lane.now c.requires.serves) c.requires.from);
-    }
-
-pub returns-in_default : goal.returns-in_default
-returns-in_default g c =
-    let keyed = keyed_but_list c.args.self.now c.in_default.not-ArrayList in
-    record {
-      next = subst (Follows (base_line c.args.self.now c.args.lane.now c.args.back) c.args.from.now) (spot_of_found c.next_keyed.result c.next_keyed.ensures.spot)
-          (follows_in_line c.args.self.now c.args.lane.now c.args.back c.args.from.now (option_map (λ found. key_of found.row) c.next_keyed.result) keyed (of_keys_alone c.args.self.now c.args.lane.now c.requires.serves) c.requires.from (rw (c.key_at.ensures) at c.next_keyed.ensures.next));
-      row = row_of_found c.args.self.now c.next_keyed.result keyed c.next_keyed.ensures.spot c.next_keyed.ensures.row;
-      step = c.next_keyed.ensures.step;
-    }

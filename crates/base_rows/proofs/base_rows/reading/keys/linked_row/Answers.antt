@@ -6,4 +6,4 @@ pub returns-in-Within-clause-next : goal.returns-in-Within-clause-next
 returns-in-Within-clause-next g c = absurd (no_window c.args.ask.now _ _ c.requires.ask c.in-Within.is)
 
 pub returns-in-Nothing-clause-next : goal.returns-in-Nothing-clause-next
-returns-in-Nothing-clause-next g c = follows_nothing (keys_of c.args.rows.now) c.args.ask.now c.args.back c.args.from c.in-Nothing.is
+returns-in-Nothing-clause-next g c = follows_nothing (keys_of (g.K.FoundRows.rows c.args.rows.now)) c.args.ask.now c.args.back c.args.from c.in-Nothing.is
