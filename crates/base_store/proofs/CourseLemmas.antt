@@ -11,7 +11,6 @@ use Rattle.view_laws.specs.LanesDown.{lane_down}
 use Rattle.view_laws.specs.Serving.{Serves}
 use Rattle.view_steps.specs.KnownLanes.{ComesDown}
 use Rattle.view_steps.specs.KnownViews.{is_known_view, number_under}
-use Rattle.base_store.specs.declared.store.courses.Course.{Course}
 use Rattle.base_store.specs.Courses.{IsCourse}
 use Rattle.view_steps.proofs.KnownLemmas.{known_base}
 

@@ -1,5 +1,5 @@
 -- A known step passes a lane of each candidate down as one of each.
-use Rattle.std.proofs.Common.{◌≡◌, true, ◌&&◌, refl, ap, sym, ◌∙◌, subst}
+use Rattle.std.proofs.Common.{◌≡◌, true, ◌&&◌, refl, ap, ◌∙◌, subst}
 use Rattle.std.specs.Prelude.{Some}
 use Rattle.std.specs.Option.{IfSome}
 use Rattle.vocabulary.specs.declared.items.Side.TheVariants.{First, Second}

@@ -4,7 +4,7 @@ use Rattle.std.specs.List.{AllByRecursion}
 use Rattle.vocabulary.specs.declared.items.Item.{Item}
 use Rattle.vocabulary.specs.declared.items.Item.TheVariants.{One, Entry}
 use Rattle.vocabulary.specs.declared.kinds.Kind.{Kind}
-use Rattle.vocabulary.specs.declared.kinds.Kind.TheVariants.{ArrayList, LinkedHashSet, TreeSet, TreeSetReverse, TreeSetLength, LinkedHashMap, TreeMap, TreeMapReverse, TreeMapLength}
+use Rattle.vocabulary.specs.declared.kinds.Kind.TheVariants.{ArrayList, LinkedHashSet, TreeSet, TreeSetReverse, TreeSetLength, LinkedHashMap, TreeMap, TreeMapReverse, TreeMapLength, HashBiMap}
 use Rattle.vocabulary.specs.declared.shapes.Shape.TheVariants as shape
 use Rattle.vocabulary.specs.Kinds.{shape_of_kind}
 use Rattle.vocabulary.specs.Known.{is_known_kind}
@@ -29,6 +29,10 @@ map_form : (sorted : Bool) (row : Item) → IsRowIn (shape.Map sorted) row → h
 map_form sorted (Entry k v) h = refl
 map_form sorted _ h = absurd h
 
+bimap_form : (row : Item) → IsRowIn shape.BiMap row → has_form shape.BiMap row ≡ true
+bimap_form (Entry k v) h = refl
+bimap_form _ h = absurd h
+
 row_form : (kind : Kind) (row : Item) → is_known_kind kind ≡ true → IsRowOf kind row → has_form (shape_of_kind kind) row ≡ true
 row_form ArrayList row known h = list_form row h
 row_form LinkedHashSet row known h = set_form false row h
@@ -39,6 +43,7 @@ row_form LinkedHashMap row known h = map_form false row h
 row_form TreeMap row known h = map_form true row h
 row_form TreeMapReverse row known h = map_form true row h
 row_form TreeMapLength row known h = map_form true row h
+row_form HashBiMap row known h = bimap_form row h
 row_form _ row known h = absurd (cc)
 
 rows_form : (kind : Kind) (rows : List Item) → is_known_kind kind ≡ true → AreRowsOf kind rows → AllByRecursion (λ (row : Item). has_form (shape_of_kind kind) row ≡ true) rows

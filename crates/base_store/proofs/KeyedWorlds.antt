@@ -1,5 +1,6 @@
--- No key stands twice in a base without rows, nor in the bases of a world of which one changes, or to which another comes.
-use Rattle.std.proofs.Common.{◌≡◌, ℕ, ◌<◌, [], ◌∷◌, ◌++◌, length, set, ap, sym, ◌∙◌, subst, inl, inr, zero, suc}
+-- No key stands twice in a base without rows, nor in the bases of a world of which one changes, or to which another comes;
+-- nor does a value in a bimap.
+use Rattle.std.proofs.Common.{ℕ, ◌<◌, [], ◌∷◌, ◌++◌, length, set, ap, sym, ◌∙◌, subst, inl, inr, zero, suc}
 use Rattle.std.specs.List.{IsDistinct}
 use Rattle.std.proofs.lemmas.Bool.{cases_eq}
 use Rattle.std.proofs.lemmas.List.{get_or-set_other}

@@ -1,7 +1,9 @@
 pub mod ViewLemmas
 pub mod NodeLemmas
 pub mod KeyedWorlds
+pub mod PairLemmas
 pub mod RoomLemmas
+pub mod ForcedLemmas
 pub mod FactLemmas
 pub mod BuiltLemmas
 pub mod ShownLemmas

@@ -2,6 +2,7 @@
 use Rattle.std.proofs.Common.{◌≡◌, ℕ, Bool, true, false, cond, List, [], ◌∷◌, refl, sym, ap, subst}
 use Rattle.std.specs.Prelude.{Some}
 use Rattle.vocabulary.specs.declared.items.Item.{Item}
+use Rattle.vocabulary.specs.declared.items.Side.TheVariants.{First, Second}
 use Rattle.vocabulary.specs.declared.kinds.Kind.TheVariants.{ArrayList}
 use Rattle.machine.specs.Bases.{Base, World, base_at}
 use Rattle.machine.specs.Leaves.{Leaf, leaf_at, stepped_all}
@@ -11,7 +12,6 @@ use Rattle.view_laws.specs.Spots.{TellAll, TellRows}
 use Rattle.view_steps.specs.KnownViews.{has_none}
 use Rattle.base_rows.specs.BaseSpots.{HasKeys, IsRowAt, numbered, spots_of}
 use Rattle.base_store.specs.Courses.{spots_in}
-use Rattle.vocabulary.specs.declared.items.Side.TheVariants.{First, Second}
 use Rattle.view_steps.proofs.KnownLemmas.{none_there}
 use Rattle.base_rows.proofs.SpotsTold.{spots_tell}
 

@@ -1,10 +1,9 @@
 -- The spots of the rows of a store's bases, and the courses that walks of its views take along them.
-use Rattle.std.specs.Prelude.{◌≡◌, ℕ, Bool, true, if◌then◌else◌, List, Some}
-use Rattle.std.specs.List.{AllByRecursion}
+use Rattle.std.specs.Prelude.{◌≡◌, ℕ, Bool, if◌then◌else◌, List, Some}
 use Rattle.base_rows.specs.BaseSpots.{numbered, spots_of}
 use Rattle.base_store.specs.declared.store.courses.Course.{Course}
 use Rattle.machine.specs.Bases.{World, base_at}
-use Rattle.machine.specs.Leaves.{Leaf, leaf_at, stored}
+use Rattle.machine.specs.Leaves.{leaf_at}
 use Rattle.machine.specs.Views.{View}
 use Rattle.view_laws.specs.declared.lanes.Lane.{Lane}
 use Rattle.view_laws.specs.declared.places.RowSpot.{RowSpot}

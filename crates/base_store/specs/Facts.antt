@@ -5,13 +5,14 @@ use Rattle.base_store.specs.declared.store.facts.Facts.{Facts}
 use Rattle.base_store.specs.Nodes.{view_at}
 use Rattle.machine.specs.KeptSteps.{window_at}
 use Rattle.machine.specs.Bases.{World}
+use Rattle.machine.specs.Spots.{is_swapped}
 use Rattle.machine.specs.Views.{View, flags_at, has_for_map, path, shape_at}
 use Rattle.view_steps.specs.KnownViews.{number_under}
 use Rattle.view_steps.specs.Turning.{turned}
 
 -- the facts of a view
 abbrev pub facts_at : World → View → Facts
-facts_at world v = record { base = number_under v; path = path v; shape = shape_at world v; flags = flags_at world v; window = window_at v; turned = turned v; for_map = has_for_map v }
+facts_at world v = record { base = number_under v; path = path v; shape = shape_at world v; flags = flags_at world v; window = window_at v; turned = turned v; swapped = is_swapped v; for_map = has_for_map v }
 
 -- the facts of each node, in turn, are those of its view
 pub record AreFactsOf (world : World) (nodes : List Made) (facts : List Facts) : Type 0 where

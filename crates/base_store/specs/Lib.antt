@@ -3,6 +3,7 @@ pub mod Limits
 pub mod Nodes
 pub mod Stored
 pub mod Unfolding
+pub mod RowFaults
 pub mod Courses
 pub mod Facts
 pub mod NodeLists

@@ -28,7 +28,7 @@ abbrev pub view_in : Stored → ℕ → View
 view_in s n = view_at s.nodes n
 
 -- every node stands on what stands before it, and takes a known step that the view below it has; each base is of a known
--- kind and has no key twice
+-- kind and has no key twice, nor a bimap a value
 pub record IsBuilt (s : Stored) : Type 0 where
   pub below : (n : ℕ) (node : Made) → slice_get s.nodes n ≡ Some node → IsBelow (length s.world) n node
   pub lasting : s.lasting ≤ length s.nodes

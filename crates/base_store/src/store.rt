@@ -1,4 +1,4 @@
-ghost use Rattle.std.specs.Prelude.{◌≡◌, ◌+◌, ◌++◌, ◌∷◌, [], ◌<◌, ◌≤◌, ◌⊎◌, length, OnOk, OnErr, IfOk, IfErr, IsSome, None, Some, slice_get, true};
+ghost use Rattle.std.specs.Prelude.{◌≡◌, ◌+◌, ◌++◌, ◌∷◌, [], ◌<◌, ◌≤◌, ◌⊎◌, length, OnOk, OnErr, IfOk, IfErr, IsSome, Some, slice_get, true};
 ghost use Rattle.base_store.specs.Stored.{view_in, with_base, with_kept, with_node, without_temporary};
 ghost use Rattle.base_store.specs.Limits.{most_handles};
 ghost use Rattle.base_store.specs.Unfolding.{Unfolds};
@@ -22,6 +22,7 @@ ghost use Rattle.machine.specs.Views.{base, over, path, shape_at, flags_at};
 ghost use Rattle.view_steps.specs.KnownViews.{is_known, is_known_view, number_under};
 ghost use Rattle.machine.specs.Leaves.{stored};
 ghost use Rattle.machine.specs.Bases.{base_at, empty_base};
+ghost use Rattle.machine.specs.Spots.{own_spot};
 ghost use Rattle.view_steps.specs.Turning.{turned};
 
 mod courses;
@@ -30,6 +31,7 @@ mod facts;
 mod kept;
 mod nodes;
 mod reading;
+mod room;
 mod shown;
 mod slots;
 mod writing;
@@ -42,7 +44,7 @@ use facts::Facts;
 use nodes::Nodes;
 use std::alloc::Global;
 use std::marker::Model;
-use vocabulary::{Flags, Kind, Order, Refusal, Shape, Step, order_of_kind};
+use vocabulary::{Flags, Kind, Order, Refusal, Shape, Spot, Step, order_of_kind};
 
 /// How a node was made: it is the base of a number, or a step over the node of a number.
 #[derive(Drop)]
@@ -222,7 +224,8 @@ impl Store {
     }
 
     /// The base under a node. What stands there is sound: each step is known and one that the view below it has, the
-    /// kind of the base is known, and no two rows of a set or map have the same key.
+    /// kind of the base is known, and no two rows of a set, a map or a bimap have the same key, nor two of a bimap the same
+    /// value.
     pub fn base_of(&self, n: AnyRef) -> BaseId
         requires { n < length self.now.nodes }
         ensures base { result ≡ number_under (view_in self.now n) }
@@ -291,6 +294,19 @@ impl Store {
         ensures { result ≡ turned (view_in self.now n) }
     {
         self.facts(n).turned
+    }
+
+    /// Where a row goes by itself that comes to the base through a node: as its key says, or its value, where keys and
+    /// values stand exchanged.
+    pub fn own_spot(&self, n: AnyRef) -> Spot
+        requires { n < length self.now.nodes }
+        ensures { result ≡ own_spot (view_in self.now n) }
+    {
+        if self.facts(n).swapped {
+            Spot::Swapped
+        } else {
+            Spot::Own
+        }
     }
 
     /// The order in which a node's windows are read.

@@ -5,14 +5,16 @@ ghost use Rattle.base_store.specs.Stored.{view_in};
 ghost use Rattle.machine.specs.Views.{shape_at};
 ghost use Rattle.view_laws.specs.Lanes as lanes;
 ghost use Rattle.view_laws.specs.LanesDown.{lane_down};
-ghost use Rattle.view_laws.specs.LookUps.{of_element};
+ghost use Rattle.view_laws.specs.Serving.{of_part};
 ghost use Rattle.view_laws.specs.declared.lanes.Pick.TheVariants.{Each};
-ghost use Rattle.vocabulary.specs.Shapes.{is_keyed};
+ghost use Rattle.view_steps.specs.KnownLanes as views;
+ghost use Rattle.vocabulary.specs.Shapes.{is_unique};
 
 use super::Store;
 use crate::{AnyRef, BaseId, Node};
 use elem::Elem;
-use view_laws::{Lane, PartAsk, Pick, all, flipped, order_on, pass_down};
+use view_laws::{Lane, PartAsk, all, flipped, order_on, pass_down, source_of};
+use vocabulary::Side;
 
 /// A walk of a view, as one of the base under it: along a lane there, from the front or from the back.
 #[derive(Clone, Copy)]
@@ -38,23 +40,33 @@ impl Store {
         }
     }
 
-    /// The course that looks up a key in a view in which no two items have the same.
-    pub fn course_of_key(&self, n: AnyRef, k: &Elem) -> Course
+    /// The course that looks up an element in a part that no two items of the view share.
+    pub fn course_of_part(&self, n: AnyRef, side: Side, x: &Elem) -> Course
         requires node { n < length self.now.nodes }
-        requires keyed { is_keyed (shape_at self.now.world (view_in self.now n)) ≡ true }
-        ensures { IsCourse self.now.world (view_in self.now n) (of_element k.now) false result }
+        requires unique { is_unique (shape_at self.now.world (view_in self.now n)) side ≡ true }
+        ensures { IsCourse self.now.world (view_in self.now n) (of_part side x.now) false result }
     {
-        let mut lane = Lane {
-            first: PartAsk::Is(*k),
-            second: PartAsk::Any,
-            pick: Pick::Each,
-        };
+        let mut lane = lane_of_part(side, x);
         let mut from_back = false;
         let _found = self.comes_down(n, &mut lane, &mut from_back);
         Course {
             base: self.base_of(n),
             lane,
             back: from_back,
+        }
+    }
+
+    /// The part of a row of the base from which a part of an item comes.
+    pub fn part_below(&self, n: AnyRef, side: Side) -> Side
+        requires { n < length self.now.nodes }
+        ensures { result ≡ views.part_below (view_in self.now n) side }
+    {
+        match self.node(n) {
+            Node::Base(_) => side,
+            Node::Step { step, parent } => match source_of(&step, side) {
+                Some(below) => self.part_below(parent, below),
+                None => self.part_below(parent, side),
+            },
         }
     }
 
@@ -80,4 +92,17 @@ impl Store {
             }
         }
     }
+}
+
+/// The lane that asks for an element in a part.
+fn lane_of_part(side: Side, x: &Elem) -> Lane
+    ensures lane { result ≡ of_part side x.now }
+    ensures each { result.pick ≡ Each }
+{
+    let mut lane = all();
+    match side {
+        Side::First => lane.first = PartAsk::Is(*x),
+        Side::Second => lane.second = PartAsk::Is(*x),
+    }
+    lane
 }

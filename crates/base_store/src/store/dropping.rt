@@ -1,5 +1,5 @@
 //! Removing from a base what a view shows.
-ghost use Rattle.std.specs.Prelude.{◌≡◌, ◌<◌, ◌≤◌, ◌^◌, ◌++◌, false, is_some, length, true};
+ghost use Rattle.std.specs.Prelude.{◌≡◌, ◌<◌, ◌≤◌, ◌^◌, false, is_some, length, true};
 ghost use Rattle.std.specs.List.{list_any};
 ghost use Rattle.base_store.specs.Courses.{IsCourse};
 ghost use Rattle.base_store.specs.Hits.{StandBelow};
@@ -32,7 +32,7 @@ use base_rows::{Reach, RowTest};
 use elem::Steps;
 use linked_base::FreeLinkedMap;
 use std::sync::ledger::Ledger;
-use vocabulary::{Family, family_of};
+use vocabulary::{Family, Side, family_of};
 
 impl Store {
     /// Removes the rows that a view shows whose items pass a test, and tells whether there were any. It looks at the
@@ -73,7 +73,8 @@ impl Store {
     {
         self.is_lawful(n);
         let _base = self.base_of(n);
-        self.drop_reached(n, Reach::At(keys), test, steps)
+        let side = self.part_below(n, Side::First);
+        self.drop_reached(n, Reach::At(side, keys), test, steps)
     }
 
     /// Removes the rows that a view shows whose items pass a test, which a reach holds.

@@ -1,5 +1,5 @@
 //! What is constant of a view, as long as the kind of its base and its frozen mark are.
-ghost use Rattle.std.specs.Prelude.{◌≡◌, ◌<◌, ◌^◌, true};
+ghost use Rattle.std.specs.Prelude.{◌≡◌, ◌<◌, ◌^◌, true, not, if◌then◌else◌};
 ghost use Rattle.base_store.specs.Facts.{facts_at};
 ghost use Rattle.vocabulary.specs.StepShapes as table;
 ghost use Rattle.view_steps.specs.KnownViews.{is_known};
@@ -7,6 +7,7 @@ ghost use Rattle.machine.specs.Bases.{World, base_at};
 ghost use Rattle.machine.specs.Views as views;
 ghost use Rattle.machine.specs.Views.{View, base, over, shape_after};
 ghost use Rattle.machine.specs.Leaves.{stored};
+ghost use Rattle.machine.specs.Spots.{is_swapped};
 
 use elem::{Cut, Window};
 use view_steps::turns;
@@ -28,6 +29,8 @@ pub struct Facts {
     pub window: Window,
     /// Whether it is walked from the back of its base.
     pub turned: bool,
+    /// Whether keys and values of its base stand exchanged in it.
+    pub swapped: bool,
     /// Whether a step makes a multimap of a map.
     pub for_map: bool,
 }
@@ -51,6 +54,7 @@ impl Facts {
                 hi: Cut::End,
             },
             turned: false,
+            swapped: false,
             for_map: false,
         }
     }
@@ -72,6 +76,11 @@ impl Facts {
             } else {
                 self.turned
             },
+            swapped: if swaps(step) {
+                !self.swapped
+            } else {
+                self.swapped
+            },
             for_map: is_for_map(step) || self.for_map,
         }
     }
@@ -85,6 +94,13 @@ fn shape_over(below: Shape, step: &Step) -> Shape
         Some(shape) => shape,
         None => below,
     }
+}
+
+/// Whether a step exchanges keys and values.
+fn swaps(step: &Step) -> bool
+    ensures { (v : View) → is_swapped (over step.now v) ≡ (if result then not (is_swapped v) else is_swapped v) }
+{
+    matches!(step, Step::Plain(PlainStep::Inverse))
 }
 
 /// Whether a step makes a multimap of a map.

@@ -1,15 +1,18 @@
 //! What changes one base of a store: its rows, and its change number with them.
-ghost use Rattle.std.specs.Prelude.{◌≡◌, ◌<◌, ◌≤◌, ◌+◌, ◌^◌, ◌⊎◌, ◌∷◌, ℕ, [], List, Some, filter, if◌then◌else◌, length, nat_lt, not, true, IfErr, OnErr, OnOk};
-ghost use Rattle.base_rows.specs.Adding.{is_one_more};
+ghost use Rattle.std.specs.Prelude.{◌≡◌, ◌<◌, ◌≤◌, ◌+◌, ◌^◌, ◌⊎◌, ◌∷◌, ℕ, [], List, Some, filter, if◌then◌else◌, length, nat_lt, not, false, true, IfErr, OnErr, OnOk};
+ghost use Rattle.base_rows.specs.Adding.{IsPlaceFault};
 ghost use Rattle.base_rows.specs.BaseRows.{AreRowsOf, IsFree, IsRowOf, IsSpotIn};
 ghost use Rattle.base_rows.specs.Reaches.{Reaches};
-ghost use Rattle.machine.specs.Edits.{adding, edited, removing, with_rows};
+ghost use Rattle.machine.specs.CallEdits.{forcing_at};
+ghost use Rattle.machine.specs.Edits.{adding, edited, removing, takes_edit, with_rows};
+ghost use Rattle.vocabulary.specs.Kinds.{shape_of_kind};
+ghost use Rattle.vocabulary.specs.Shapes.{is_bimap};
 ghost use Rattle.base_rows.specs.BaseSpots.{HasKeys, IsRowAt, spots_of};
 ghost use Rattle.view_laws.specs.Following.{IsFrom};
 ghost use Rattle.vocabulary.specs.declared.refusals.Refusal.TheVariants as refusals;
 
 use super::Slot;
-use base_rows::{Reach, RowTest};
+use base_rows::{PlaceFault, Reach, RowTest};
 use elem::{NoMemory, Steps};
 use std::alloc::Global;
 use std::sync::ledger::Ledger;
@@ -23,22 +26,43 @@ impl Slot {
         spot: Spot,
         row: &Item,
         steps: &mut Steps<L>,
-    ) -> Result<(), NoMemory>
+    ) -> Result<(), PlaceFault>
         requires change { self.old.change < 2 ^ 63 }
         requires fits { IsRowOf self.old.kind row.now }
         requires spot { IsSpotIn self.old.kind (length self.old.rows) spot }
         ensures ok { OnOk result (self.new ≡ edited self.old (adding spot (row.now ∷ []))) }
+        ensures taken { OnOk result (takes_edit self.old (adding spot (row.now ∷ [])) ≡ true) }
         ensures keys { OnOk result (HasKeys self.new) }
         ensures err { OnErr result (self.new ≡ self.old) }
-        ensures memory { OnErr result (is_one_more self.old.kind spot self.old.rows row.now ≡ true) }
+        ensures cause { IfErr result (IsPlaceFault self.old.kind spot self.old.rows row.now) }
         ensures steps { steps.new ≤ steps.old + 1 }
     {
-        let before = self.rows.len();
-        let Ok(()) = self.rows.place(spot, row, steps) else {
-            return Err(NoMemory);
-        };
-        let after = self.rows.len();
-        self.change = raised(self.change, before, after);
+        let changed = self.rows.place(spot, row, steps)?;
+        let _len = self.rows.len();
+        self.change = raised_if(self.change, changed);
+        Ok(())
+    }
+
+    /// Puts a pair in its spot of a bimap. Those go that have a partner of its own.
+    pub(super) fn force<L: Ledger>(
+        &mut self,
+        spot: Spot,
+        row: &Item,
+        steps: &mut Steps<L>,
+    ) -> Result<(), NoMemory>
+        requires change { self.old.change < 2 ^ 63 }
+        requires bimap { is_bimap (shape_of_kind self.old.kind) ≡ true }
+        requires fits { IsRowOf self.old.kind row.now }
+        requires spot { IsSpotIn self.old.kind (length self.old.rows) spot }
+        ensures ok { OnOk result (self.new ≡ edited self.old (forcing_at spot self.old.rows (row.now ∷ []))) }
+        ensures taken { takes_edit self.old (forcing_at spot self.old.rows (row.now ∷ [])) ≡ true }
+        ensures keys { OnOk result (HasKeys self.new) }
+        ensures err { OnErr result (self.new ≡ self.old) }
+        ensures steps { steps.new ≤ steps.old + 1 }
+    {
+        let changed = self.rows.force(spot, row, steps)?;
+        let _len = self.rows.len();
+        self.change = raised_if(self.change, changed);
         Ok(())
     }
 
@@ -55,6 +79,7 @@ impl Slot {
         requires fits { AreRowsOf self.old.kind rows.now }
         requires spot { IsSpotIn self.old.kind (length self.old.rows) spot }
         requires free { IsFree spot }
+        requires other { is_bimap (shape_of_kind self.old.kind) ≡ false }
         ensures ok { OnOk result (self.new ≡ edited self.old (adding spot rows.now)) }
         ensures keys { OnOk result (HasKeys self.new) }
         ensures few { OnOk result (length self.new.rows ≤ length self.old.rows + room) }
@@ -111,4 +136,12 @@ fn raised(change: u64, fewer: usize, more: usize) -> u64
     ensures { result ≡ change + (if nat_lt fewer more then 1 else 0) }
 {
     if fewer < more { change + 1 } else { change }
+}
+
+/// A change number after a change that counts, or one that does not.
+fn raised_if(change: u64, counts: bool) -> u64
+    requires { change < 2 ^ 63 }
+    ensures { result ≡ change + (if counts then 1 else 0) }
+{
+    if counts { change + 1 } else { change }
 }

@@ -1,13 +1,12 @@
 //! Changing the bases of a store.
-ghost use Rattle.std.specs.Prelude.{◌≡◌, ◌<◌, ◌≤◌, ◌+◌, ◌^◌, ◌⊎◌, ◌&&◌, ◌++◌, ◌∷◌, ℕ, [], List, Some, length, nat_eq, true, Err, IfErr, OnErr, OnOk};
-ghost use Rattle.base_rows.specs.Adding.{is_one_more};
-ghost use Rattle.base_rows.specs.BaseRows.{AreRowsOf, IsFree, IsRowOf, IsSpotIn, kind_of, rows_of};
-ghost use Rattle.base_store.specs.Hits.{StandBelow};
-ghost use Rattle.base_store.specs.Nodes.{view_at};
-ghost use Rattle.base_store.specs.Stored.{view_in, with_world};
-ghost use Rattle.machine.specs.CallEdits.{all_hits};
-ghost use Rattle.machine.specs.Edits.{adding, edited, removing};
-ghost use Rattle.view_steps.specs.KnownViews.{edited_at, number_under};
+ghost use Rattle.std.specs.Prelude.{◌≡◌, ◌<◌, ◌≤◌, ◌+◌, ◌^◌, ◌⊎◌, ◌∷◌, ℕ, [], List, Some, length, false, true, Err, IfErr, OnErr, OnOk};
+ghost use Rattle.base_rows.specs.Adding.{IsPlaceFault};
+ghost use Rattle.base_store.specs.RowFaults.{IsRowFault};
+ghost use Rattle.base_rows.specs.BaseRows.{AreRowsOf, IsFree, IsRowOf, IsSpotIn};
+ghost use Rattle.base_store.specs.Stored.{with_world};
+ghost use Rattle.machine.specs.CallEdits.{forcing_at};
+ghost use Rattle.machine.specs.Edits.{adding, edited, removing, takes_edit};
+ghost use Rattle.view_steps.specs.KnownViews.{edited_at};
 ghost use Rattle.vocabulary.specs.Kinds.{shape_of_kind};
 ghost use Rattle.base_rows.specs.BaseSpots.{HasKeys, IsRowAt};
 ghost use Rattle.base_store.specs.Courses.{spots_at};
@@ -15,27 +14,27 @@ ghost use Rattle.view_laws.specs.Following.{IsFrom};
 ghost use Rattle.machine.specs.RowCounts.{rows_in};
 ghost use Rattle.vocabulary.specs.Limits.{most_rows};
 ghost use Rattle.view_steps.specs.Limits.{Grows};
-ghost use Rattle.vocabulary.specs.Shapes.{is_keyed};
-ghost use Rattle.machine.specs.Views.{base, candidates};
-ghost use Rattle.machine.specs.Leaves.{stored};
+ghost use Rattle.vocabulary.specs.Shapes.{is_bimap};
 ghost use Rattle.machine.specs.Bases.{base_at};
 ghost use Rattle.vocabulary.specs.declared.refusals.Refusal.TheVariants as refusals;
 
+use super::room::{full_refusal, is_full, is_full_for_forced};
 use super::{MOST_ROWS, Slot, Store};
 use crate::BaseId;
-use base_rows::BaseRows;
+use base_rows::PlaceFault;
 use elem::{NoMemory, Steps};
 use std::alloc::Global;
 use std::sync::ledger::Ledger;
 use view_laws::RowSpot;
-use vocabulary::{Item, Refusal, Spot, key_of};
+use vocabulary::{Item, Refusal, Spot};
 
 impl Store {
-    /// Puts a row in its spot of a base. It takes memory only where a row is added.
+    /// Puts a row in its spot of a base. It takes memory only where a row is added, and in a bimap.
     ///
     /// # Errors
     ///
-    /// `Limit` where a row is added and there is no room for one, and `NoMemory`.
+    /// `IllegalArgument` where a bimap has the row's partner bound to another, `Limit` where a row is added and there is no
+    /// room for one, and `NoMemory`.
     pub fn place_row<L: Ledger>(
         &mut self,
         b: BaseId,
@@ -48,18 +47,61 @@ impl Store {
         requires fits { IsRowOf (base_at self.old.world b).kind row.now }
         requires spot { IsSpotIn (base_at self.old.world b).kind (length (base_at self.old.world b).rows) spot }
         ensures ok { OnOk result (self.new ≡ with_world self.old (edited_at self.old.world b (adding spot (row.now ∷ [])))) }
+        ensures taken { OnOk result (takes_edit (base_at self.old.world b) (adding spot (row.now ∷ [])) ≡ true) }
         ensures few { rows_in self.new.world ≤ most_rows }
         ensures err { OnErr result (self.new ≡ self.old) }
-        ensures cause { IfErr result (λ why. ((why ≡ refusals.Limit) × (most_rows < rows_in (edited_at self.old.world b (adding spot (row.now ∷ []))))) ⊎ (why ≡ refusals.NoMemory)) }
-        ensures memory { result ≡ Err refusals.NoMemory → Grows self.old.world (edited_at self.old.world b (adding spot (row.now ∷ []))) }
+        ensures cause { IfErr result (IsRowFault self.old.world b (adding spot (row.now ∷ []))) }
+        ensures memory { result ≡ Err refusals.NoMemory → is_bimap (shape_of_kind (base_at self.old.world b).kind) ≡ false → Grows self.old.world (edited_at self.old.world b (adding spot (row.now ∷ []))) }
         ensures steps { steps.new ≤ steps.old + 2 }
     {
+        self.rows_fit(b);
         let at = b.number();
         let before = rows_at(self.slots.as_slice(), at);
         if is_full(self.rows, self.slots.as_slice(), at, spot, row, steps) {
+            return Err(full_refusal(self.slots.as_slice(), at, spot, row, steps));
+        }
+        match place_in(&mut self.slots, at, spot, row, steps) {
+            Err(PlaceFault::Refused) => Err(Refusal::IllegalArgument),
+            Err(PlaceFault::NoMemory) => Err(Refusal::NoMemory),
+            Ok(()) => {
+                let after = rows_at(self.slots.as_slice(), at);
+                self.rows = self.rows - before + after;
+                Ok(())
+            }
+        }
+    }
+
+    /// Puts a pair in its spot of a bimap. Those go that have a partner of its own.
+    ///
+    /// # Errors
+    ///
+    /// `Limit` where a pair more is left and there is no room for one, and `NoMemory`.
+    pub fn force_row<L: Ledger>(
+        &mut self,
+        b: BaseId,
+        spot: Spot,
+        row: &Item,
+        steps: &mut Steps<L>,
+    ) -> Result<(), Refusal>
+        requires base { b < length self.old.world }
+        requires change { (base_at self.old.world b).change < 2 ^ 63 }
+        requires bimap { is_bimap (shape_of_kind (base_at self.old.world b).kind) ≡ true }
+        requires fits { IsRowOf (base_at self.old.world b).kind row.now }
+        requires spot { IsSpotIn (base_at self.old.world b).kind (length (base_at self.old.world b).rows) spot }
+        ensures ok { OnOk result (self.new ≡ with_world self.old (edited_at self.old.world b (forcing_at spot (base_at self.old.world b).rows (row.now ∷ [])))) }
+        ensures taken { takes_edit (base_at self.old.world b) (forcing_at spot (base_at self.old.world b).rows (row.now ∷ [])) ≡ true }
+        ensures few { rows_in self.new.world ≤ most_rows }
+        ensures err { OnErr result (self.new ≡ self.old) }
+        ensures cause { IfErr result (IsRowFault self.old.world b (forcing_at spot (base_at self.old.world b).rows (row.now ∷ []))) }
+        ensures steps { steps.new ≤ steps.old + 3 }
+    {
+        self.rows_fit(b);
+        let at = b.number();
+        let before = rows_at(self.slots.as_slice(), at);
+        if is_full_for_forced(self.rows, self.slots.as_slice(), at, row, steps) {
             return Err(Refusal::Limit);
         }
-        let Ok(()) = place_in(&mut self.slots, at, spot, row, steps) else {
+        let Ok(()) = force_in(&mut self.slots, at, spot, row, steps) else {
             return Err(Refusal::NoMemory);
         };
         let after = rows_at(self.slots.as_slice(), at);
@@ -84,6 +126,7 @@ impl Store {
         requires fits { AreRowsOf (base_at self.old.world b).kind rows.now }
         requires spot { IsSpotIn (base_at self.old.world b).kind (length (base_at self.old.world b).rows) spot }
         requires free { IsFree spot }
+        requires other { is_bimap (shape_of_kind (base_at self.old.world b).kind) ≡ false }
         ensures ok { OnOk result (self.new ≡ with_world self.old (edited_at self.old.world b (adding spot rows.now))) }
         ensures few { rows_in self.new.world ≤ most_rows }
         ensures err { OnErr result (self.new ≡ self.old) }
@@ -128,45 +171,31 @@ pub(super) fn rows_at(slots: &[Slot], b: usize) -> usize
     slot.rows.len()
 }
 
-/// Whether a row would be one too many.
-fn is_full<L: Ledger>(
-    rows: usize,
-    slots: &[Slot],
+/// Puts a row in its spot of a base.
+fn place_in<L: Ledger>(
+    slots: &mut Vec<Slot>,
     b: usize,
     spot: Spot,
     row: &Item,
     steps: &mut Steps<L>,
-) -> bool
-    requires { b < length slots.now }
-    ensures full { result ≡ (nat_eq rows most_rows && is_one_more (base_at slots.now b).kind spot (base_at slots.now b).rows row.now) }
+) -> Result<(), PlaceFault>
+    requires base { b < length slots.old.items }
+    requires change { (base_at slots.old.items b).change < 2 ^ 63 }
+    requires fits { IsRowOf (base_at slots.old.items b).kind row.now }
+    requires spot { IsSpotIn (base_at slots.old.items b).kind (length (base_at slots.old.items b).rows) spot }
+    ensures ok { OnOk result (slots.new.items ≡ edited_at slots.old.items b (adding spot (row.now ∷ []))) }
+    ensures taken { OnOk result (takes_edit (base_at slots.old.items b) (adding spot (row.now ∷ [])) ≡ true) }
+    ensures keys { OnOk result (HasKeys (edited (base_at slots.old.items b) (adding spot (row.now ∷ [])))) }
+    ensures err { OnErr result (slots.new.items ≡ slots.old.items) }
+    ensures cause { IfErr result (IsPlaceFault (base_at slots.old.items b).kind spot (base_at slots.old.items b).rows row.now) }
     ensures steps { steps.new ≤ steps.old + 1 }
 {
-    if rows != MOST_ROWS {
-        return false;
-    }
-    let slot = &slots[b];
-    adds(&slot.rows, spot, row, steps)
+    let slot = &mut slots[b];
+    slot.place(spot, row, steps)
 }
 
-/// Whether a row that comes to a spot is one more.
-fn adds<L: Ledger>(rows: &BaseRows, spot: Spot, row: &Item, steps: &mut Steps<L>) -> bool
-    ensures added { result ≡ is_one_more (kind_of rows.now) spot (rows_of rows.now) row.now }
-    ensures steps { steps.new ≤ steps.old + 1 }
-{
-    match spot {
-        Spot::Own => {
-            if !rows.goes_by_key() {
-                return true;
-            }
-            rows.row_of_key(&key_of(row), steps).is_none()
-        }
-        Spot::Instead(_) => false,
-        _ => true,
-    }
-}
-
-/// Puts a row in its spot of a base.
-fn place_in<L: Ledger>(
+/// Puts a pair in its spot of a bimap.
+fn force_in<L: Ledger>(
     slots: &mut Vec<Slot>,
     b: usize,
     spot: Spot,
@@ -175,16 +204,17 @@ fn place_in<L: Ledger>(
 ) -> Result<(), NoMemory>
     requires base { b < length slots.old.items }
     requires change { (base_at slots.old.items b).change < 2 ^ 63 }
+    requires bimap { is_bimap (shape_of_kind (base_at slots.old.items b).kind) ≡ true }
     requires fits { IsRowOf (base_at slots.old.items b).kind row.now }
     requires spot { IsSpotIn (base_at slots.old.items b).kind (length (base_at slots.old.items b).rows) spot }
-    ensures ok { OnOk result (slots.new.items ≡ edited_at slots.old.items b (adding spot (row.now ∷ []))) }
-    ensures keys { OnOk result (HasKeys (edited (base_at slots.old.items b) (adding spot (row.now ∷ [])))) }
+    ensures ok { OnOk result (slots.new.items ≡ edited_at slots.old.items b (forcing_at spot (base_at slots.old.items b).rows (row.now ∷ []))) }
+    ensures taken { takes_edit (base_at slots.old.items b) (forcing_at spot (base_at slots.old.items b).rows (row.now ∷ [])) ≡ true }
+    ensures keys { OnOk result (HasKeys (edited (base_at slots.old.items b) (forcing_at spot (base_at slots.old.items b).rows (row.now ∷ [])))) }
     ensures err { OnErr result (slots.new.items ≡ slots.old.items) }
-    ensures memory { OnErr result (is_one_more (base_at slots.old.items b).kind spot (base_at slots.old.items b).rows row.now ≡ true) }
     ensures steps { steps.new ≤ steps.old + 1 }
 {
     let slot = &mut slots[b];
-    slot.place(spot, row, steps)
+    slot.force(spot, row, steps)
 }
 
 /// Puts rows in their spot of a base, where no more than so many new ones come.
@@ -202,6 +232,7 @@ fn place_all_in<L: Ledger>(
     requires fits { AreRowsOf (base_at slots.old.items b).kind rows.now }
     requires spot { IsSpotIn (base_at slots.old.items b).kind (length (base_at slots.old.items b).rows) spot }
     requires free { IsFree spot }
+    requires other { is_bimap (shape_of_kind (base_at slots.old.items b).kind) ≡ false }
     ensures ok { OnOk result (slots.new.items ≡ edited_at slots.old.items b (adding spot rows.now)) }
     ensures keys { OnOk result (HasKeys (edited (base_at slots.old.items b) (adding spot rows.now))) }
     ensures few { OnOk result (length (edited (base_at slots.old.items b) (adding spot rows.now)).rows ≤ length (base_at slots.old.items b).rows + room) }
