@@ -13,6 +13,7 @@ use Rattle.machine.specs.Views.{View, candidates}
 use Rattle.read_chain.specs.LookUps.{IsFoundAt}
 use Rattle.read_chain.specs.Reads.{StandsAt}
 use Rattle.vocabulary.specs.declared.items.Item.{Item}
+use Rattle.vocabulary.specs.declared.items.Side.TheVariants.{First}
 use Rattle.vocabulary.specs.Items.{value_of}
 use Rattle.view_laws.specs.declared.places.Found.{Found}
 use Rattle.view_laws.specs.declared.places.RowSpot.{RowSpot}
@@ -39,7 +40,7 @@ one_shows [] d e = absurd (cc)
 one_shows (c ∷ []) d e = record { candidate = c; only = refl; shows = cc }
 one_shows (c ∷ f ∷ cs) d e = absurd (cc)
 
-pub key_hit : (world : World) (v : View) (passes : Item → Bool) (k : Elem) (s : RowSpot) (d : Found) → IsFoundAt world v k s → ((item : Item) → passes item ≡ true → has_key k item ≡ true)
+pub key_hit : (world : World) (v : View) (passes : Item → Bool) (k : Elem) (s : RowSpot) (d : Found) → IsFoundAt world v First k s → ((item : Item) → passes item ≡ true → has_key k item ≡ true)
     → filter (λ (e : Found). has_key k e.item) (map found_in (candidates world v)) ≡ d ∷ [] → found_hit passes d ≡ true → StandsAt world v (place_of s) (first_hit passes (candidates world v))
 key_hit world v passes k s d there imply one hit =
     let cs : List Candidate = candidates world v in

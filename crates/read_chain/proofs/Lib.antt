@@ -3,7 +3,7 @@ pub mod ShapeLemmas
 pub mod Along
 pub mod WalkLemmas
 pub mod CourseLemmas
-pub mod KeyCourses
+pub mod PartCourses
 pub mod LookUpLemmas
 pub mod FindLemmas
 pub mod ListViewLemmas

@@ -19,8 +19,8 @@ use Rattle.view_steps.proofs.KnownLemmas.{is_known_shape}
 -- what has keys among known shapes is a map or a bimap
 pub has_key_shape : (of : Shape) → is_known_shape of ≡ true → fits_element of ContainsKey ≡ true → is_keyed of ≡ true
 has_key_shape (shape.Map sorted) known fits = refl
-has_key_shape (shape.Set sorted) known fits = refl
 has_key_shape shape.BiMap known fits = refl
+has_key_shape (shape.Set sorted) known fits = refl
 has_key_shape (shape.Rows rows.Entry) known fits = refl
 has_key_shape shape.List known fits = absurd (cc)
 has_key_shape shape.Coll known fits = absurd (cc)

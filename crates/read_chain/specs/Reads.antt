@@ -5,7 +5,7 @@ use Rattle.vocabulary.specs.declared.answers.Answer.{Answer}
 use Rattle.vocabulary.specs.declared.answers.Answer.TheVariants.{Element}
 use Rattle.vocabulary.specs.declared.calls.Call.{Call}
 use Rattle.vocabulary.specs.declared.calls.Call.TheVariants as call
-use Rattle.vocabulary.specs.declared.calls.OnElement.TheVariants.{Contains, ValueOf, ContainsKey}
+use Rattle.vocabulary.specs.declared.calls.OnElement.TheVariants.{Contains, ValueOf, ContainsKey, ContainsValue}
 use Rattle.vocabulary.specs.declared.calls.OnPair.TheVariants.{ContainsEntry}
 use Rattle.vocabulary.specs.declared.items.Item.{Item}
 use Rattle.view_laws.specs.declared.places.Place.{Place}
@@ -19,6 +19,9 @@ use Rattle.machine.specs.Answers.{answer_of}
 use Rattle.vocabulary.specs.Items.{key_of}
 use Rattle.base_rows.specs.BaseSpots.{IsRowAt}
 use Rattle.base_store.specs.Courses.{spots_at}
+use Rattle.vocabulary.specs.declared.items.Side.TheVariants.{First, Second}
+use Rattle.vocabulary.specs.declared.shapes.Shape.{Shape}
+use Rattle.vocabulary.specs.Shapes.{is_unique}
 use Rattle.vocabulary.specs.Steps.{family_of}
 use Rattle.machine.specs.Bases.{World}
 use Rattle.machine.specs.Views.{View, base, both, over, flags_at, shape_at, shown}
@@ -61,10 +64,11 @@ pub record StandsAt (world : World) (v : View) (p : Place) (numbers : List ℕ) 
   pub leaf : p.leaf ≡ 0
   pub row : IsRowAt (spots_at world (number_under v)) p.spot numbers
 
--- whether a call asks for one item, which a view that goes by key finds by its key
-abbrev pub is_look_up : Call → Bool
-is_look_up (call.Element Contains x) = true
-is_look_up (call.Element ValueOf k) = true
-is_look_up (call.Element ContainsKey k) = true
-is_look_up (call.Pair ContainsEntry k v) = true
-is_look_up other = false
+-- whether a call asks for one item of views of a shape, by a part that no two of their items share
+abbrev pub is_looked_up : Shape → Call → Bool
+is_looked_up of (call.Element Contains x) = is_unique of First
+is_looked_up of (call.Element ValueOf k) = is_unique of First
+is_looked_up of (call.Element ContainsKey k) = is_unique of First
+is_looked_up of (call.Element ContainsValue v) = is_unique of Second
+is_looked_up of (call.Pair ContainsEntry k v) = is_unique of First
+is_looked_up of other = false

@@ -19,7 +19,7 @@ use base_store::{AnyRef, Store};
 use elem::{Elem, Steps};
 use std::sync::ledger::Ledger;
 use view_laws::Place;
-use vocabulary::{Item, key_of, value_of};
+use vocabulary::{Item, Side, key_of, value_of};
 
 /// The place of the first item that is the same. In a set, in a set of entries, and in a view that makes no other items of
 /// a list and is not turned round, it asks the base once at most.
@@ -58,7 +58,7 @@ pub fn place_and_value<L: Ledger>(
     ensures value { option_map (λ found. found.1) result ≡ value_shown (shown_in store.now n) k.now }
     ensures step { steps.new ≤ steps.old + 1 }
 {
-    match look_up(store, n, k, steps) {
+    match look_up(store, n, Side::First, k, steps) {
         Some(there) => {
             if there.found.seen {
                 Some((at_spot(there.spot), value_of(&there.found.item)))
@@ -85,7 +85,7 @@ fn place_at_key<T: RowTest, L: Ledger>(
     ensures some { IfSome result (λ p. StandsAt store.now.world (view_in store.now n) p (first_hit (T.passes test.now) (candidates store.now.world (view_in store.now n)))) }
     ensures step { steps.new ≤ steps.old + 1 }
 {
-    match look_up(store, n, k, steps) {
+    match look_up(store, n, Side::First, k, steps) {
         Some(there) => {
             if is_hit(test, &there.found) {
                 Some(at_spot(there.spot))

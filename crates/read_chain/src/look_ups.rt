@@ -1,11 +1,10 @@
-//! Looking up by key: one call of the base.
+//! Looking up by key, and by the value of a bimap: one call of the base.
 ghost use Rattle.std.specs.Prelude.{◌≡◌, ◌<◌, ◌≤◌, ◌+◌, length, true, filter, map, option_map, option_to_list, IfSome};
 ghost use Rattle.base_store.specs.Stored.{view_in};
-ghost use Rattle.machine.specs.Shown.{has_key};
-ghost use Rattle.read_chain.specs.LookUps.{IsFoundAt};
+ghost use Rattle.read_chain.specs.LookUps.{has_part, IsFoundAt};
 ghost use Rattle.read_chain.specs.Reads.{shown_in};
 ghost use Rattle.view_laws.specs.Places.{found_in};
-ghost use Rattle.vocabulary.specs.Shapes.{is_keyed};
+ghost use Rattle.vocabulary.specs.Shapes.{is_bimap, is_keyed, is_unique};
 ghost use Rattle.machine.specs.Views.{candidates, shape_at};
 
 use crate::places::found_of_row;
@@ -13,7 +12,7 @@ use base_store::{AnyRef, Store};
 use elem::{Elem, Steps};
 use std::sync::ledger::Ledger;
 use view_laws::{Found, RowSpot};
-use vocabulary::{Item, RowSort, Shape};
+use vocabulary::{Item, RowSort, Shape, Side};
 
 /// What a view has of a row, and the spot of the row.
 #[derive(Clone, Copy)]
@@ -22,22 +21,24 @@ pub(crate) struct SpottedFound {
     pub(crate) found: Found,
 }
 
-/// What a view of a set, a map or entries has of a key, shown or hidden, and where. It asks the base once at most.
+/// What a view has of an element in a part that no two of its items share, shown or hidden, and where. It asks the base
+/// once at most.
 pub(crate) fn look_up<L: Ledger>(
     store: &Store,
     n: AnyRef,
-    k: &Elem,
+    side: Side,
+    x: &Elem,
     steps: &mut Steps<L>,
 ) -> Option<SpottedFound>
     requires node { n < length store.now.nodes }
-    requires keyed { is_keyed (shape_at store.now.world (view_in store.now n)) ≡ true }
-    ensures found { filter (λ d. has_key k.now d.item) (map found_in (candidates store.now.world (view_in store.now n))) ≡ option_to_list (option_map (λ s. s.found) result) }
-    ensures spot { IfSome result (λ s. IsFoundAt store.now.world (view_in store.now n) k.now s.spot) }
+    requires unique { is_unique (shape_at store.now.world (view_in store.now n)) side ≡ true }
+    ensures found { filter (λ d. has_part side x.now d.item) (map found_in (candidates store.now.world (view_in store.now n))) ≡ option_to_list (option_map (λ s. s.found) result) }
+    ensures spot { IfSome result (λ s. IsFoundAt store.now.world (view_in store.now n) side x.now s.spot) }
     ensures step { steps.new ≤ steps.old + 1 }
 {
     let _base = store.base_of(n);
     store.is_lawful(n);
-    let course = store.course_of_key(n, k);
+    let course = store.course_of_part(n, side, x);
     match store.next_row(&course, &None, steps) {
         Some(next) => Some(SpottedFound {
             spot: next.spot,
@@ -47,19 +48,20 @@ pub(crate) fn look_up<L: Ledger>(
     }
 }
 
-/// The item shown at a key. It asks the base once at most.
-pub(crate) fn shown_at_key<L: Ledger>(
+/// The item shown that has an element in such a part. It asks the base once at most.
+pub(crate) fn shown_with<L: Ledger>(
     store: &Store,
     n: AnyRef,
-    k: &Elem,
+    side: Side,
+    x: &Elem,
     steps: &mut Steps<L>,
 ) -> Option<Item>
     requires node { n < length store.now.nodes }
-    requires keyed { is_keyed (shape_at store.now.world (view_in store.now n)) ≡ true }
-    ensures item { filter (has_key k.now) (shown_in store.now n) ≡ option_to_list result }
+    requires unique { is_unique (shape_at store.now.world (view_in store.now n)) side ≡ true }
+    ensures item { filter (has_part side x.now) (shown_in store.now n) ≡ option_to_list result }
     ensures step { steps.new ≤ steps.old + 1 }
 {
-    match look_up(store, n, k, steps) {
+    match look_up(store, n, side, x, steps) {
         Some(there) => {
             if there.found.seen {
                 Some(there.found.item)
@@ -83,4 +85,11 @@ pub fn goes_by_key(shape: Shape) -> bool
             | Shape::Groups(_)
             | Shape::BiMap
     )
+}
+
+/// Whether no two items of a view of the shape have the same value.
+pub(crate) fn goes_by_value(shape: Shape) -> bool
+    ensures { result ≡ is_bimap shape }
+{
+    matches!(shape, Shape::BiMap)
 }

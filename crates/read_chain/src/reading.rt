@@ -2,7 +2,7 @@
 ghost use Rattle.std.specs.Prelude.{◌≡◌, ◌<◌, ◌≤◌, ◌+◌, length, true, nat_lt, Ok, ◌≢◌, Err};
 ghost use Rattle.base_store.specs.Stored.{view_in};
 ghost use Rattle.read_chain.specs.ListLookUps.{is_asked_at_once};
-ghost use Rattle.read_chain.specs.Reads.{element_told, is_look_up, shown_in, told};
+ghost use Rattle.read_chain.specs.Reads.{element_told, is_looked_up, shown_in, told};
 ghost use Rattle.machine.specs.CallRefusals.{index_refusal};
 ghost use Rattle.machine.specs.Answering.{unless_refused};
 ghost use Rattle.machine.specs.Answers as answers;
@@ -37,7 +37,7 @@ pub fn read<L: Ledger>(
     requires reads { needs_of call.now ≡ needs.Nothing }
     ensures answer { result ≡ told store.now.world (view_in store.now n) call.now }
     ensures memory { result ≢ Err NoMemory }
-    ensures steps { is_look_up call.now ≡ true → is_keyed (shape_at store.now.world (view_in store.now n)) ≡ true → steps.new ≤ steps.old + 1 }
+    ensures steps { is_looked_up (shape_at store.now.world (view_in store.now n)) call.now ≡ true → steps.new ≤ steps.old + 1 }
     ensures at_once { is_asked_at_once store.now.world (view_in store.now n) call.now ≡ true → steps.new ≤ steps.old + 1 }
 {
     match call {
@@ -99,7 +99,7 @@ fn read_element<L: Ledger>(
     requires known { is_known_element word ≡ true }
     requires reads { needs_of (calls.Element word x.now) ≡ needs.Nothing }
     ensures answer { result ≡ answers.element_answer (shape_at store.now.world (view_in store.now n)) word x.now (shown_in store.now n) }
-    ensures steps { is_look_up (calls.Element word x.now) ≡ true → is_keyed (shape_at store.now.world (view_in store.now n)) ≡ true → steps.new ≤ steps.old + 1 }
+    ensures steps { is_looked_up (shape_at store.now.world (view_in store.now n)) (calls.Element word x.now) ≡ true → steps.new ≤ steps.old + 1 }
     ensures at_once { is_asked_at_once store.now.world (view_in store.now n) (calls.Element word x.now) ≡ true → steps.new ≤ steps.old + 1 }
 {
     let _base = store.base_of(n);

@@ -8,20 +8,20 @@ ghost use Rattle.read_chain.specs.Reads.{shown_in};
 ghost use Rattle.machine.specs.Shown as found;
 ghost use Rattle.vocabulary.specs.Items.{same_item as same_items};
 ghost use Rattle.vocabulary.specs.Shapes.{is_list};
-ghost use Rattle.vocabulary.specs.Shapes.{is_keyed};
+ghost use Rattle.vocabulary.specs.Shapes.{is_bimap, is_keyed};
 ghost use Rattle.machine.specs.Views.{shape_at};
 
 use crate::finding::{ItemTest, find};
 use crate::indexes::item_index;
 use crate::list_look_ups::{is_found_at_once, is_indexed_at_once, item_index_of, shows_item};
-use crate::look_ups::{goes_by_key, shown_at_key};
+use crate::look_ups::{goes_by_key, goes_by_value, shown_with};
 use crate::places::{at_spot, found_at};
 use crate::walks::Walk;
 use base_store::{AnyRef, Node, Store};
 use elem::{Elem, Steps};
 use std::sync::ledger::Ledger;
 use view_laws::RowSpot;
-use vocabulary::{Family, Item, family_of, key_of, same_item, value_of};
+use vocabulary::{Family, Item, Side, family_of, key_of, same_item, value_of};
 
 /// Whether the steps of a family leave no item out.
 fn keeps_all(family: Family) -> bool
@@ -78,7 +78,7 @@ pub fn contains<L: Ledger>(store: &Store, n: AnyRef, item: &Item, steps: &mut St
     ensures at_once { lists.is_found_at_once store.now.world (view_in store.now n) item.now ≡ true → steps.new ≤ steps.old + 1 }
 {
     if goes_by_key(store.shape(n)) {
-        match shown_at_key(store, n, &key_of(item), steps) {
+        match shown_with(store, n, Side::First, &key_of(item), steps) {
             Some(shown) => same_item(item, &shown),
             None => false,
         }
@@ -169,7 +169,7 @@ pub fn map_get<L: Ledger>(store: &Store, n: AnyRef, k: &Elem, steps: &mut Steps<
     ensures value { result ≡ found.value_shown (shown_in store.now n) k.now }
     ensures step { steps.new ≤ steps.old + 1 }
 {
-    match shown_at_key(store, n, k, steps) {
+    match shown_with(store, n, Side::First, k, steps) {
         Some(item) => Some(value_of(&item)),
         None => None,
     }
@@ -182,15 +182,21 @@ pub fn has_key<L: Ledger>(store: &Store, n: AnyRef, k: &Elem, steps: &mut Steps<
     ensures key { result ≡ list_any (found.has_key k.now) (shown_in store.now n) }
     ensures step { steps.new ≤ steps.old + 1 }
 {
-    shown_at_key(store, n, k, steps).is_some()
+    shown_with(store, n, Side::First, k, steps).is_some()
 }
 
-/// Whether a value is shown.
+/// Whether a value is shown. A bimap asks its base once at most.
 pub fn has_value<L: Ledger>(store: &Store, n: AnyRef, v: &Elem, steps: &mut Steps<L>) -> bool
     requires { n < length store.now.nodes }
-    ensures { result ≡ list_any (found.has_value v.now) (shown_in store.now n) }
+    ensures value { result ≡ list_any (found.has_value v.now) (shown_in store.now n) }
+    ensures step { is_bimap (shape_at store.now.world (view_in store.now n)) ≡ true → steps.new ≤ steps.old + 1 }
 {
-    find(store, n, &ItemTest::OfValue(*v), steps).is_some()
+    if goes_by_value(store.shape(n)) {
+        store.is_lawful(n);
+        shown_with(store, n, Side::Second, v, steps).is_some()
+    } else {
+        find(store, n, &ItemTest::OfValue(*v), steps).is_some()
+    }
 }
 
 /// The first item shown.

@@ -8,4 +8,4 @@ use Rattle.view_steps.proofs.KeyLemmas.{find_one, any_found}
 pub returns-clause-key : goal.returns-clause-key
 returns-clause-key g c =
     let items = shown_in c.args.store.now c.args.n in
-    c.is_some.ensures ∙ sym (any_found (has_key c.args.k.now) items ∙ ap is_some (find_one (has_key c.args.k.now) items c.shown_at_key.result c.shown_at_key.ensures.item))
+    c.is_some.ensures ∙ sym (any_found (has_key c.args.k.now) items ∙ ap is_some (find_one (has_key c.args.k.now) items c.shown_with.result c.shown_with.ensures.item))
