@@ -10,7 +10,7 @@ use Rattle.vocabulary.specs.declared.shapes.RowSort.TheVariants as rows
 use Rattle.vocabulary.specs.declared.shapes.Shape.{Shape}
 use Rattle.vocabulary.specs.declared.shapes.Shape.TheVariants as shape
 use Rattle.vocabulary.specs.Known.{is_known_kind}
-use Rattle.vocabulary.specs.Shapes.{is_bimap, is_elements, is_map}
+use Rattle.vocabulary.specs.Shapes.{is_elements, is_map}
 use Rattle.vocabulary.specs.Fits.{is_entries}
 use Rattle.machine.specs.MadeViews.{IsMade}
 use Rattle.vocabulary.specs.Kinds.{shape_of_kind}
@@ -19,31 +19,31 @@ use Rattle.machine.specs.Bases.{World}
 use Rattle.machine.specs.Views.{View, base, base_under, both, over, shape_at, shown}
 use Rattle.machine.specs.Leaves.{leaf_at}
 use Rattle.view_steps.specs.KnownViews.{is_known_view}
-use Rattle.view_steps.proofs.KindLemmas.{no_bimap}
 use Rattle.view_steps.proofs.KnownLemmas.{is_known_shape, known_over, known_shape}
 use Rattle.view_steps.proofs.RowLemmas.{shown_law}
 use Rattle.view_steps.proofs.ItemLemmas.{IsItemIn, Each, an_element, an_entry, each_turned, no_entries, step_item, item_over}
 
 -- ---- rows of a base
 
-row_item : (of : Shape) (row : Item) → is_known_shape of ≡ true → is_entries of ≡ false → is_bimap of ≡ false → IsRowIn of row → IsItemIn of row
-row_item (shape.Map sorted) (Entry k w) known h one r = tt
-row_item (shape.Map sorted) row known h one r = absurd r
-row_item shape.BiMap row known h one r = absurd (cc)
-row_item shape.List (One x) known h one r = tt
-row_item shape.List row known h one r = absurd r
-row_item (shape.Set sorted) (One x) known h one r = tt
-row_item (shape.Set sorted) row known h one r = absurd r
-row_item shape.Coll (One x) known h one r = tt
-row_item shape.Coll row known h one r = absurd r
-row_item (shape.Rows rows.Entry) row known h one r = absurd (cc)
-row_item _ row known h one r = absurd (cc)
+row_item : (of : Shape) (row : Item) → is_known_shape of ≡ true → is_entries of ≡ false → IsRowIn of row → IsItemIn of row
+row_item (shape.Map sorted) (Entry k w) known h r = tt
+row_item (shape.Map sorted) row known h r = absurd r
+row_item shape.BiMap (Entry k w) known h r = tt
+row_item shape.BiMap row known h r = absurd r
+row_item shape.List (One x) known h r = tt
+row_item shape.List row known h r = absurd r
+row_item (shape.Set sorted) (One x) known h r = tt
+row_item (shape.Set sorted) row known h r = absurd r
+row_item shape.Coll (One x) known h r = tt
+row_item shape.Coll row known h r = absurd r
+row_item (shape.Rows rows.Entry) row known h r = absurd (cc)
+row_item _ row known h r = absurd (cc)
 
 -- ---- steps
 
 form_item : (world : World) (v : View) → is_known_view v ≡ true → is_known_kind (leaf_at world (base_under v)).kind ≡ true → IsMade world v → (row : Item) → IsRowOf (leaf_at world (base_under v)).kind row
     → IsItemIn (shape_at world v) ((form_of v).item row)
-form_item world (base l) known kind made row h = row_item (shape_of_kind (leaf_at world l).kind) row (known_shape world (base l) known kind) (no_entries (leaf_at world l).kind kind) (no_bimap (leaf_at world l).kind kind) h
+form_item world (base l) known kind made row h = row_item (shape_of_kind (leaf_at world l).kind) row (known_shape world (base l) known kind) (no_entries (leaf_at world l).kind kind) h
 form_item world (over it v) known kind made row h =
     let parts = known_over it v known in
     subst (IsItemIn (shape_at world (over it v))) (sym (item_over it (form_of v) row))

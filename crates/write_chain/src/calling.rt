@@ -13,13 +13,13 @@ ghost use Rattle.machine.specs.Views.{flags_at, shape_at};
 ghost use Rattle.vocabulary.specs.declared.calls.Call.TheVariants as calls;
 ghost use Rattle.vocabulary.specs.declared.refusals.Refusal.TheVariants.{NoMemory};
 ghost use Rattle.read_chain.specs.ListLookUps.{is_asked_at_once};
-ghost use Rattle.read_chain.specs.Reads.{is_look_up};
-ghost use Rattle.write_chain.specs.Calls.{Came, answered_known, answered_known_with, is_removed_at_once, is_single};
+ghost use Rattle.read_chain.specs.Reads.{is_looked_up};
+ghost use Rattle.write_chain.specs.Calls.{Came, answered_known, answered_known_with, is_forced, is_removed_at_once, is_single};
 ghost use Rattle.machine.specs.Memory.{adds_rows, wants_memory, wants_memory_with};
 
 use crate::clearing::clear;
 use crate::others::{add_all, put_all, remove_others};
-use crate::putting::{add, add_at, put, set_at};
+use crate::putting::{add, add_at, force_put, put, set_at};
 use crate::removing::{remove_at, remove_item, remove_key};
 use base_store::{AnyRef, Store};
 use elem::{Elem, Steps};
@@ -35,8 +35,9 @@ use vocabulary::{
 /// # Errors
 ///
 /// The refusal of the call, in this order: `UnsupportedOperation` where the view does not allow it, the refusal of its
-/// argument, `IllegalArgument` where an item that is added does not pass, and `Limit` where there would be too many
-/// rows; or `NoMemory`, where it would leave more rows than there were. Nothing has changed then.
+/// argument, `IllegalArgument` where an item that is added does not pass, or a bimap has its partner bound to another, and
+/// `Limit` where there would be too many rows; or `NoMemory`, where it would leave more rows than there were, or puts a
+/// pair into a bimap. Nothing has changed then.
 pub fn call<L: Ledger>(
     store: &mut Store,
     n: AnyRef,
@@ -51,7 +52,8 @@ pub fn call<L: Ledger>(
     ensures memory { result ≡ Err NoMemory → wants_memory store.old.world (view_in store.old n) call.now (answered store.old.world (view_in store.old n) call.now) ≡ true }
     ensures changes { (most : ℕ) → ChangesUpTo most store.old.world → ChangesUpTo (most + 1) store.new.world }
     ensures steps { is_single call.now ≡ true → is_keyed (shape_at store.old.world (view_in store.old n)) ≡ true → steps.new ≤ steps.old + 3 }
-    ensures looks_up { is_look_up call.now ≡ true → is_keyed (shape_at store.old.world (view_in store.old n)) ≡ true → steps.new ≤ steps.old + 1 }
+    ensures forced { is_forced call.now ≡ true → steps.new ≤ steps.old + 4 }
+    ensures looks_up { is_looked_up (shape_at store.old.world (view_in store.old n)) call.now ≡ true → steps.new ≤ steps.old + 1 }
     ensures at_once { is_asked_at_once store.old.world (view_in store.old n) call.now ≡ true → steps.new ≤ steps.old + 1 }
     ensures removes_at_once { is_removed_at_once store.old.world (view_in store.old n) call.now ≡ true → steps.new ≤ steps.old + 2 }
 {
@@ -76,9 +78,10 @@ fn carry_out<L: Ledger>(
     requires allowed { table.lacks (flags_at store.old.world (view_in store.old n)) (needs_of call.now) ≡ false }
     requires change { ChangesUpTo (2 ^ 63 - 1) store.old.world }
     ensures came { Came result store.old store.new (answered_known store.old.world (view_in store.old n) call.now) }
-    ensures memory { result ≡ Err NoMemory → adds_rows store.old.world (answered_known store.old.world (view_in store.old n) call.now) ≡ true }
+    ensures memory { result ≡ Err NoMemory → wants_memory store.old.world (view_in store.old n) call.now (answered_known store.old.world (view_in store.old n) call.now) ≡ true }
     ensures steps { is_single call.now ≡ true → is_keyed (shape_at store.old.world (view_in store.old n)) ≡ true → steps.new ≤ steps.old + 3 }
-    ensures looks_up { is_look_up call.now ≡ true → is_keyed (shape_at store.old.world (view_in store.old n)) ≡ true → steps.new ≤ steps.old + 1 }
+    ensures forced { is_forced call.now ≡ true → steps.new ≤ steps.old + 4 }
+    ensures looks_up { is_looked_up (shape_at store.old.world (view_in store.old n)) call.now ≡ true → steps.new ≤ steps.old + 1 }
     ensures at_once { is_asked_at_once store.old.world (view_in store.old n) call.now ≡ true → steps.new ≤ steps.old + 1 }
     ensures removes_at_once { is_removed_at_once store.old.world (view_in store.old n) call.now ≡ true → steps.new ≤ steps.old + 2 }
 {
@@ -104,7 +107,7 @@ fn on_ask<L: Ledger>(
     requires allowed { table.lacks (flags_at store.old.world (view_in store.old n)) (needs_of (calls.Ask word)) ≡ false }
     requires change { ChangesUpTo (2 ^ 63 - 1) store.old.world }
     ensures came { Came result store.old store.new (answered_known store.old.world (view_in store.old n) (calls.Ask word)) }
-    ensures memory { result ≡ Err NoMemory → adds_rows store.old.world (answered_known store.old.world (view_in store.old n) (calls.Ask word)) ≡ true }
+    ensures memory { result ≡ Err NoMemory → wants_memory store.old.world (view_in store.old n) (calls.Ask word) (answered_known store.old.world (view_in store.old n) (calls.Ask word)) ≡ true }
     ensures steps { is_single (calls.Ask word) ≡ true → is_keyed (shape_at store.old.world (view_in store.old n)) ≡ true → steps.new ≤ steps.old + 3 }
 {
     match word {
@@ -126,9 +129,9 @@ fn on_element<L: Ledger>(
     requires allowed { table.lacks (flags_at store.old.world (view_in store.old n)) (needs_of (calls.Element word x.now)) ≡ false }
     requires change { ChangesUpTo (2 ^ 63 - 1) store.old.world }
     ensures came { Came result store.old store.new (answered_known store.old.world (view_in store.old n) (calls.Element word x.now)) }
-    ensures memory { result ≡ Err NoMemory → adds_rows store.old.world (answered_known store.old.world (view_in store.old n) (calls.Element word x.now)) ≡ true }
+    ensures memory { result ≡ Err NoMemory → wants_memory store.old.world (view_in store.old n) (calls.Element word x.now) (answered_known store.old.world (view_in store.old n) (calls.Element word x.now)) ≡ true }
     ensures steps { is_single (calls.Element word x.now) ≡ true → is_keyed (shape_at store.old.world (view_in store.old n)) ≡ true → steps.new ≤ steps.old + 3 }
-    ensures looks_up { is_look_up (calls.Element word x.now) ≡ true → is_keyed (shape_at store.old.world (view_in store.old n)) ≡ true → steps.new ≤ steps.old + 1 }
+    ensures looks_up { is_looked_up (shape_at store.old.world (view_in store.old n)) (calls.Element word x.now) ≡ true → steps.new ≤ steps.old + 1 }
     ensures at_once { is_asked_at_once store.old.world (view_in store.old n) (calls.Element word x.now) ≡ true → steps.new ≤ steps.old + 1 }
     ensures removes_at_once { is_removed_at_once store.old.world (view_in store.old n) (calls.Element word x.now) ≡ true → steps.new ≤ steps.old + 2 }
 {
@@ -152,7 +155,7 @@ fn on_index<L: Ledger>(
     requires allowed { table.lacks (flags_at store.old.world (view_in store.old n)) (needs_of (calls.Index word i)) ≡ false }
     requires change { ChangesUpTo (2 ^ 63 - 1) store.old.world }
     ensures came { Came result store.old store.new (answered_known store.old.world (view_in store.old n) (calls.Index word i)) }
-    ensures memory { result ≡ Err NoMemory → adds_rows store.old.world (answered_known store.old.world (view_in store.old n) (calls.Index word i)) ≡ true }
+    ensures memory { result ≡ Err NoMemory → wants_memory store.old.world (view_in store.old n) (calls.Index word i) (answered_known store.old.world (view_in store.old n) (calls.Index word i)) ≡ true }
     ensures steps { is_single (calls.Index word i) ≡ true → is_keyed (shape_at store.old.world (view_in store.old n)) ≡ true → steps.new ≤ steps.old + 3 }
 {
     match word {
@@ -174,7 +177,7 @@ fn on_indexed<L: Ledger>(
     requires allowed { table.lacks (flags_at store.old.world (view_in store.old n)) (needs_of (calls.Indexed word i x.now)) ≡ false }
     requires change { ChangesUpTo (2 ^ 63 - 1) store.old.world }
     ensures came { Came result store.old store.new (answered_known store.old.world (view_in store.old n) (calls.Indexed word i x.now)) }
-    ensures memory { result ≡ Err NoMemory → adds_rows store.old.world (answered_known store.old.world (view_in store.old n) (calls.Indexed word i x.now)) ≡ true }
+    ensures memory { result ≡ Err NoMemory → wants_memory store.old.world (view_in store.old n) (calls.Indexed word i x.now) (answered_known store.old.world (view_in store.old n) (calls.Indexed word i x.now)) ≡ true }
     ensures steps { is_single (calls.Indexed word i x.now) ≡ true → is_keyed (shape_at store.old.world (view_in store.old n)) ≡ true → steps.new ≤ steps.old + 3 }
 {
     match word {
@@ -197,12 +200,14 @@ fn on_pair<L: Ledger>(
     requires allowed { table.lacks (flags_at store.old.world (view_in store.old n)) (needs_of (calls.Pair word k.now w.now)) ≡ false }
     requires change { ChangesUpTo (2 ^ 63 - 1) store.old.world }
     ensures came { Came result store.old store.new (answered_known store.old.world (view_in store.old n) (calls.Pair word k.now w.now)) }
-    ensures memory { result ≡ Err NoMemory → adds_rows store.old.world (answered_known store.old.world (view_in store.old n) (calls.Pair word k.now w.now)) ≡ true }
+    ensures memory { result ≡ Err NoMemory → wants_memory store.old.world (view_in store.old n) (calls.Pair word k.now w.now) (answered_known store.old.world (view_in store.old n) (calls.Pair word k.now w.now)) ≡ true }
     ensures steps { is_single (calls.Pair word k.now w.now) ≡ true → is_keyed (shape_at store.old.world (view_in store.old n)) ≡ true → steps.new ≤ steps.old + 3 }
-    ensures looks_up { is_look_up (calls.Pair word k.now w.now) ≡ true → is_keyed (shape_at store.old.world (view_in store.old n)) ≡ true → steps.new ≤ steps.old + 1 }
+    ensures forced { is_forced (calls.Pair word k.now w.now) ≡ true → steps.new ≤ steps.old + 4 }
+    ensures looks_up { is_looked_up (shape_at store.old.world (view_in store.old n)) (calls.Pair word k.now w.now) ≡ true → steps.new ≤ steps.old + 1 }
 {
     match word {
         OnPair::Put => put(store, n, k, w, steps),
+        OnPair::ForcePut => force_put(store, n, k, w, steps),
         OnPair::ContainsEntry => read(store, n, &Call::Pair(word, *k, *w), steps),
         OnPair::RemoveEntry => Ok(remove_item(store, n, &Item::Entry(*k, *w), steps)),
         _ => unreachable!(),

@@ -7,16 +7,16 @@ ghost use Rattle.machine.specs.Views.{lift as lifted_item};
 use base_store::{AnyRef, Node, Store};
 use vocabulary::{Item, lifted};
 
-/// Whether an item that is added passes each step down to the base. It is the row then.
-pub(crate) fn lifts(store: &Store, n: AnyRef, item: &Item) -> bool
+/// The row of the base that an added item is, where it passes each step on its way down.
+pub(crate) fn lift(store: &Store, n: AnyRef, item: &Item) -> Option<Item>
     requires { n < length store.now.nodes }
-    ensures { result ≡ is_some (lifted_item (view_in store.now n) item.now) }
+    ensures { result ≡ lifted_item (view_in store.now n) item.now }
 {
     match store.node(n) {
-        Node::Base(_) => true,
+        Node::Base(_) => Some(*item),
         Node::Step { step, parent } => match lifted(&step, item) {
-            Some(below) => lifts(store, parent, &below),
-            None => false,
+            Some(below) => lift(store, parent, &below),
+            None => None,
         },
     }
 }
@@ -26,5 +26,5 @@ pub(crate) fn all_lift(store: &Store, n: AnyRef, items: &[Item]) -> bool
     requires { n < length store.now.nodes }
     ensures { result ≡ list_all (λ item. is_some (lifted_item (view_in store.now n) item)) items.now }
 {
-    items.iter().all(|item| lifts(store, n, item))
+    items.iter().all(|item| lift(store, n, item).is_some())
 }

@@ -5,6 +5,7 @@ ghost use Rattle.base_rows.specs.BaseRows.{AreRowsOf};
 ghost use Rattle.base_store.specs.Stored.{view_in};
 ghost use Rattle.machine.specs.CallEdits.{all_hits};
 ghost use Rattle.machine.specs.Answers as answering;
+ghost use Rattle.vocabulary.specs.Fits.{is_plain_map};
 ghost use Rattle.vocabulary.specs.Shapes as shapes;
 ghost use Rattle.machine.specs.Shown as found;
 ghost use Rattle.machine.specs.RowCounts.{ChangesUpTo};
@@ -140,7 +141,7 @@ pub(crate) fn put_all<L: Ledger>(
 ) -> Result<Answer, Refusal>
     requires node { n < length store.old.nodes }
     requires other { other < length store.old.nodes }
-    requires map { shapes.is_map (shape_at store.old.world (view_in store.old n)) ≡ true }
+    requires map { is_plain_map (shape_at store.old.world (view_in store.old n)) ≡ true }
     requires others { shapes.is_map (shape_at store.old.world (view_in store.old other)) ≡ true }
     requires adds { (flags_at store.old.world (view_in store.old n)).add ≡ true }
     requires change { ChangesUpTo (2 ^ 63 - 1) store.old.world }

@@ -1,9 +1,9 @@
 //! The calls that add one item to a view that allows it.
 ghost use Rattle.std.specs.Prelude.{◌≡◌, ◌<◌, ◌^◌, ◌-◌, length, true, Err, ◌≤◌, ◌+◌};
 ghost use Rattle.base_store.specs.Stored.{view_in};
-ghost use Rattle.vocabulary.specs.Shapes.{is_elements, is_list, is_map};
+ghost use Rattle.vocabulary.specs.Shapes.{is_bimap, is_elements, is_list, is_map};
 ghost use Rattle.machine.specs.RowCounts.{ChangesUpTo};
-ghost use Rattle.machine.specs.Memory.{adds_rows};
+ghost use Rattle.machine.specs.Memory.{wants_memory};
 ghost use Rattle.vocabulary.specs.Shapes.{is_keyed};
 ghost use Rattle.machine.specs.Answers.{is_added};
 ghost use Rattle.machine.specs.Views.{flags_at, shape_at, shown};
@@ -14,7 +14,7 @@ ghost use Rattle.vocabulary.specs.declared.calls.OnPair.TheVariants as on_pair;
 ghost use Rattle.write_chain.specs.Calls.{Came, answered_known};
 ghost use Rattle.vocabulary.specs.declared.refusals.Refusal.TheVariants.{NoMemory};
 
-use crate::adding::add_one;
+use crate::adding::{add_one, force_one};
 use crate::spots::end_spot;
 use base_store::{AnyRef, Store};
 use elem::{Elem, Steps};
@@ -47,7 +47,7 @@ pub(crate) fn add<L: Ledger>(
     requires adds { (flags_at store.old.world (view_in store.old n)).add ≡ true }
     requires change { ChangesUpTo (2 ^ 63 - 1) store.old.world }
     ensures came { Came result store.old store.new (answered_known store.old.world (view_in store.old n) (calls.Element on_element.Add x.now)) }
-    ensures memory { result ≡ Err NoMemory → adds_rows store.old.world (answered_known store.old.world (view_in store.old n) (calls.Element on_element.Add x.now)) ≡ true }
+    ensures memory { result ≡ Err NoMemory → wants_memory store.old.world (view_in store.old n) (calls.Element on_element.Add x.now) (answered_known store.old.world (view_in store.old n) (calls.Element on_element.Add x.now)) ≡ true }
     ensures steps { is_keyed (shape_at store.old.world (view_in store.old n)) ≡ true → steps.new ≤ steps.old + 3 }
 {
     let _base = store.base_of(n);
@@ -70,7 +70,7 @@ pub(crate) fn add_at<L: Ledger>(
     requires adds { (flags_at store.old.world (view_in store.old n)).add ≡ true }
     requires change { ChangesUpTo (2 ^ 63 - 1) store.old.world }
     ensures came { Came result store.old store.new (answered_known store.old.world (view_in store.old n) (calls.Indexed on_indexed.AddAt i x.now)) }
-    ensures memory { result ≡ Err NoMemory → adds_rows store.old.world (answered_known store.old.world (view_in store.old n) (calls.Indexed on_indexed.AddAt i x.now)) ≡ true }
+    ensures memory { result ≡ Err NoMemory → wants_memory store.old.world (view_in store.old n) (calls.Indexed on_indexed.AddAt i x.now) (answered_known store.old.world (view_in store.old n) (calls.Indexed on_indexed.AddAt i x.now)) ≡ true }
 {
     let Some(at) = i else {
         return Err(Refusal::IndexOutOfBounds);
@@ -96,7 +96,7 @@ pub(crate) fn set_at<L: Ledger>(
     requires adds { (flags_at store.old.world (view_in store.old n)).add ≡ true }
     requires change { ChangesUpTo (2 ^ 63 - 1) store.old.world }
     ensures came { Came result store.old store.new (answered_known store.old.world (view_in store.old n) (calls.Indexed on_indexed.SetAt i x.now)) }
-    ensures memory { result ≡ Err NoMemory → adds_rows store.old.world (answered_known store.old.world (view_in store.old n) (calls.Indexed on_indexed.SetAt i x.now)) ≡ true }
+    ensures memory { result ≡ Err NoMemory → wants_memory store.old.world (view_in store.old n) (calls.Indexed on_indexed.SetAt i x.now) (answered_known store.old.world (view_in store.old n) (calls.Indexed on_indexed.SetAt i x.now)) ≡ true }
 {
     let Some(at) = i else {
         return Err(Refusal::IndexOutOfBounds);
@@ -116,7 +116,7 @@ pub(crate) fn set_at<L: Ledger>(
     )
 }
 
-/// Puts a value at a key, and tells the one that was shown there before.
+/// Puts a value at a key, and tells the one that was shown there before. A bimap refuses a value that is another key's.
 pub(crate) fn put<L: Ledger>(
     store: &mut Store,
     n: AnyRef,
@@ -129,17 +129,45 @@ pub(crate) fn put<L: Ledger>(
     requires adds { (flags_at store.old.world (view_in store.old n)).add ≡ true }
     requires change { ChangesUpTo (2 ^ 63 - 1) store.old.world }
     ensures came { Came result store.old store.new (answered_known store.old.world (view_in store.old n) (calls.Pair on_pair.Put k.now w.now)) }
-    ensures memory { result ≡ Err NoMemory → adds_rows store.old.world (answered_known store.old.world (view_in store.old n) (calls.Pair on_pair.Put k.now w.now)) ≡ true }
+    ensures memory { result ≡ Err NoMemory → wants_memory store.old.world (view_in store.old n) (calls.Pair on_pair.Put k.now w.now) (answered_known store.old.world (view_in store.old n) (calls.Pair on_pair.Put k.now w.now)) ≡ true }
     ensures steps { steps.new ≤ steps.old + 3 }
 {
     let _base = store.base_of(n);
     let before = map_get(store, n, k, steps);
+    let spot = store.own_spot(n);
     add_one(
         store,
         n,
         &Item::Entry(*k, *w),
-        Spot::Own,
+        spot,
         Answer::Optional(before),
+        steps,
+    )
+}
+
+/// Puts a value at a key of a bimap, and tells the one that was shown there before. Another key loses the value.
+pub(crate) fn force_put<L: Ledger>(
+    store: &mut Store,
+    n: AnyRef,
+    k: &Elem,
+    w: &Elem,
+    steps: &mut Steps<L>,
+) -> Result<Answer, Refusal>
+    requires node { n < length store.old.nodes }
+    requires bimap { is_bimap (shape_at store.old.world (view_in store.old n)) ≡ true }
+    requires adds { (flags_at store.old.world (view_in store.old n)).add ≡ true }
+    requires change { ChangesUpTo (2 ^ 63 - 1) store.old.world }
+    ensures came { Came result store.old store.new (answered_known store.old.world (view_in store.old n) (calls.Pair on_pair.ForcePut k.now w.now)) }
+    ensures memory { result ≡ Err NoMemory → wants_memory store.old.world (view_in store.old n) (calls.Pair on_pair.ForcePut k.now w.now) (answered_known store.old.world (view_in store.old n) (calls.Pair on_pair.ForcePut k.now w.now)) ≡ true }
+    ensures steps { steps.new ≤ steps.old + 4 }
+{
+    let _base = store.base_of(n);
+    let bound = map_get(store, n, k, steps);
+    force_one(
+        store,
+        n,
+        &Item::Entry(*k, *w),
+        Answer::Optional(bound),
         steps,
     )
 }

@@ -1,8 +1,8 @@
-use Rattle.std.proofs.Common.{◌||◌, sym, ap, ◌∙◌, subst}
+use Rattle.std.proofs.Common.{sym, ap, ◌∙◌, subst}
 use Rattle.base_store.specs.Stored.{view_in}
 use Rattle.machine.specs.Answers.{answer_of}
 use Rattle.machine.specs.CallEdits.{edit_of}
-use Rattle.machine.specs.Memory.{adds_rows, gathers}
+use Rattle.machine.specs.Memory.{wants_memory}
 use Rattle.machine.specs.Views.{shape_at, shown}
 use Rattle.write_chain.specs.Calls.{Came, known_refusal}
 use Rattle.write_chain.proofs.ChangeLemmas.{came_changes}
@@ -24,7 +24,7 @@ returns-clause-memory g c = λ e.
     let s = c.args.store.now in
     let v = view_in s c.args.n in
     let it = c.args.call.now in
-    ap (λ b. b || gathers (shape_at s.world v) it) (ap (adds_rows s.world) (known_answer s.world v it (stands s.world v c.base_of-base.result c.base_of-base.ensures.base c.base_of-base.ensures.known c.base_of-base.ensures.kind c.base_of-base.ensures.made) c.requires.known) ∙ c.carry_out.ensures.memory e)
+    ap (wants_memory s.world v it) (known_answer s.world v it (stands s.world v c.base_of-base.result c.base_of-base.ensures.base c.base_of-base.ensures.known c.base_of-base.ensures.kind c.base_of-base.ensures.made) c.requires.known) ∙ c.carry_out.ensures.memory e
 
 pub returns-clause-changes : goal.returns-clause-changes
 returns-clause-changes g c =

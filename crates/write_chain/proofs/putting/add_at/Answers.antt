@@ -1,10 +1,11 @@
-use Rattle.std.proofs.Common.{◌≡◌, true, refl, sym, subst}
+use Rattle.std.proofs.Common.{◌≡◌, true, false, refl, sym, subst}
 use Rattle.base_store.specs.Stored.{view_in}
 use Rattle.machine.specs.Memory.{adds_rows}
 use Rattle.write_chain.specs.Calls.{Came}
+use Rattle.write_chain.proofs.AddLemmas.{more_wanted}
 use Rattle.write_chain.proofs.IndexCalls.{add_at_given, add_at_refused}
 use Rattle.write_chain.proofs.KnownCalls.{stands}
-use Rattle.write_chain.proofs.ShapeLemmas.{list_fits, list_under}
+use Rattle.write_chain.proofs.ShapeLemmas.{list_fits, list_no_bimap, list_under}
 use Rattle.write_chain.proofs.putting.add_at.Goals as goal
 
 pub returns-then-at-rows-clause-came : goal.returns-then-at-rows-clause-came
@@ -35,7 +36,7 @@ pub returns-clause-memory : goal.returns-clause-memory
 returns-clause-memory g c = λ e.
     let s = c.args.store.now in
     let v = view_in s c.args.n in
-    subst (λ outcome. adds_rows s.world outcome ≡ true)
+    more_wanted _ false (subst (λ outcome. adds_rows s.world outcome ≡ true)
     (sym (add_at_given s.world v c.base_of.result c.len-rows.result c.args.i c.in-Some.at c.gap_index.result c.args.x.now (record { base = c.base_of.ensures.base; rows_are = c.len-rows.ensures.len; index = c.in-Some.is })
     (stands s.world v c.base_of.result c.base_of.ensures.base c.base_of.ensures.known c.base_of.ensures.kind c.base_of.ensures.made) c.requires.adds c.requires.list c.if-at-rows.false c.gap_index.ensures.index))
-    (c.add_one.ensures.memory e)
+    (c.add_one.ensures.memory e (list_no_bimap s.world v c.base_of.ensures.known c.requires.adds c.requires.list)))
