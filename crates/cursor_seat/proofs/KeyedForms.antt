@@ -18,15 +18,13 @@ use Rattle.vocabulary.specs.Items.{key_of, part_of}
 use Rattle.vocabulary.specs.Kinds.{shape_of_kind}
 use Rattle.vocabulary.specs.Known.{is_known_kind}
 use Rattle.vocabulary.specs.Orders.{lies_in}
-use Rattle.vocabulary.specs.Shapes.{is_keyed}
+use Rattle.vocabulary.specs.Shapes.{is_keyed, is_sorted}
 use Rattle.vocabulary.specs.Steps.{family_of, item_of}
 use Rattle.view_laws.specs.Narrowing.{source_of, tells}
-use Rattle.view_laws.specs.Serving.{is_unique}
 use Rattle.view_laws.proofs.PartTable.{part_told}
 use Rattle.view_steps.proofs.ItemLemmas.{item_over}
-use Rattle.view_steps.proofs.KindLemmas.{no_bimap}
 use Rattle.view_steps.proofs.KnownLemmas.{known_over, known_shape}
-use Rattle.view_steps.proofs.UniqueParts.{bimap_base, part_down, sorted_keyed, window_sorted}
+use Rattle.view_steps.proofs.UniqueParts.{part_down, sorted_down, sorted_first, sorted_keyed, window_sorted}
 
 -- ---- keys of items
 
@@ -46,27 +44,21 @@ kept_key it f row known from =
     ap key_of (item_over it f row)
     ∙ subst (λ (o : Option Side). IfSome o (λ (below : Side). part_of First (item_of it (f.item row)) ≡ part_of below (f.item row))) from (part_told it First (f.item row) (tells_first it (f.item row) known from))
 
--- what tells items apart below is the key, since no known base is a bimap
-from_key : (world : World) (v : View) (side : Side) → is_known_view v ≡ true → is_known_kind (leaf_at world (base_under v)).kind ≡ true → IsMade world v → is_unique (shape_at world v) side ≡ true → side ≡ First
-from_key world v First known kind made unique = refl
-from_key world v Second known kind made unique =
-    let e : true ≡ false = sym (bimap_base world v known kind made unique) ∙ no_bimap (leaf_at world (base_under v)).kind kind in
-    absurd (cc)
-
--- a view that goes by key stands on a base that does, and its items have the keys of their rows
+-- a sorted view stands on a base that goes by key, and its items have the keys of their rows
 record HasRowKeys (world : World) (v : View) : Type 0 where
   keyed : is_keyed (shape_of_kind (leaf_at world (base_under v)).kind) ≡ true
   keys : (row : Item) → key_of ((form_of v).item row) ≡ key_of row
 
-row_keys : (world : World) (v : View) → is_known_view v ≡ true → is_known_kind (leaf_at world (base_under v)).kind ≡ true → IsMade world v → is_keyed (shape_at world v) ≡ true → HasRowKeys world v
-row_keys world (base l) known kind made keyed = record { keyed = keyed; keys = λ row. refl }
-row_keys world (over it v) known kind made keyed =
+row_keys : (world : World) (v : View) → is_known_view v ≡ true → is_known_kind (leaf_at world (base_under v)).kind ≡ true → IsMade world v → is_sorted (shape_at world v) ≡ true → HasRowKeys world v
+row_keys world (base l) known kind made sorted = record { keyed = sorted_keyed (shape_of_kind (leaf_at world l).kind) (known_shape world (base l) known kind) sorted; keys = λ row. refl }
+row_keys world (over it v) known kind made sorted =
     let k = known_over it v known in
-    let p = part_down (shape_at world v) it First (known_shape world v k.1 kind) made.0.given keyed in
-    let first : p.below ≡ First = from_key world v p.below k.1 kind made.1 p.unique in
-    let below : HasRowKeys world v = row_keys world v k.1 kind made.1 (subst (λ (side : Side). is_unique (shape_at world v) side ≡ true) first p.unique) in
-    record { keyed = below.keyed; keys = λ row. kept_key it (form_of v) row k.0 (p.from ∙ ap Some first) ∙ below.keys row }
-row_keys world (both word v u) known kind made keyed = absurd (cc)
+    let shape = known_shape world v k.1 kind in
+    let under : is_sorted (shape_at world v) ≡ true = sorted_down (shape_at world v) it shape made.0.given sorted in
+    let p = part_down (shape_at world v) it First shape made.0.given (sorted_keyed (shape_at world (over it v)) (known_shape world (over it v) known kind) sorted) in
+    let below : HasRowKeys world v = row_keys world v k.1 kind made.1 under in
+    record { keyed = below.keyed; keys = λ row. kept_key it (form_of v) row k.0 (p.from ∙ ap Some (sorted_first (shape_at world v) p.below under p.unique)) ∙ below.keys row }
+row_keys world (both word v u) known kind made sorted = absurd (cc)
 
 -- ---- rows that are taken
 
@@ -91,8 +83,7 @@ taken_over world (step.FilterPairs q) v a b known below kind made alike same = s
 taken_over world (step.Change word g) v a b known below kind made alike same = same
 taken_over world (step.Within order w) v a b known below kind made alike same =
     let shape = known_shape world v below kind in
-    let keyed : is_keyed (shape_at world v) ≡ true = sorted_keyed (shape_at world v) shape (window_sorted (shape_at world v) order w shape made.0.given) in
-    let keys : HasRowKeys world v = row_keys world v below kind made.1 keyed in
+    let keys : HasRowKeys world v = row_keys world v below kind made.1 (window_sorted (shape_at world v) order w shape made.0.given) in
     let key : key_of ((form_of v).item a) ≡ key_of ((form_of v).item b) = keys.keys a ∙ alike keys.keyed ∙ sym (keys.keys b) in
     λ i. same i && lies_in order w (key i)
 taken_over world (step.At side k n) v a b known below kind made alike same = absurd (cc)

@@ -18,6 +18,7 @@ use Rattle.vocabulary.specs.declared.calls.OnOther.{OnOther}
 use Rattle.vocabulary.specs.declared.calls.OnOther.TheVariants.{AddAll, RemoveAll, RetainAll, PutAll, AddSpans, RemoveSpans}
 use Rattle.vocabulary.specs.declared.calls.Call.{Call}
 use Rattle.vocabulary.specs.declared.calls.Call.TheVariants as call
+use Rattle.vocabulary.specs.declared.edits.Spot.{Spot}
 use Rattle.vocabulary.specs.declared.edits.Spot.TheVariants.{Own}
 use Rattle.vocabulary.specs.declared.items.Item.{Item}
 use Rattle.vocabulary.specs.declared.items.Item.TheVariants.{One, Entry, Counted, Cell, Range, Edge}
@@ -94,11 +95,12 @@ counting world v x n =
     let count = times_shown (shown world v) (One x) in
     record { gone = first_hits (count - n) (same_item (One x)) (candidates world v); held = []; added = coming Own (rows_for_times v x (n - count)) }
 
--- pairs come to a bimap, and those go that have a partner of theirs
+-- pairs come to a spot of a bimap that has these rows, and those go that have a partner of theirs
+abbrev pub forcing_at : Spot → List Item → List Item → Edit
+forcing_at spot old rows = record { gone = all_hits (λ row. list_any (λ new. has_partner_at spot new row) rows) (of_rows 0 old); held = []; added = coming spot rows }
+
 abbrev pub forcing : World → View → List Item → Edit
-forcing world v rows =
-    let old = of_rows 0 (root world v).rows in
-    record { gone = all_hits (λ row. list_any (λ new. has_partner_at (own_spot v) new row) rows) old; held = []; added = coming (own_spot v) rows }
+forcing world v rows = forcing_at (own_spot v) (root world v).rows rows
 
 -- what a call does to the base under a view; none where it only reads
 abbrev pub edit_of : World → View → Call → Option Edit

@@ -9,7 +9,7 @@ use Rattle.machine.specs.State.{Bound, State, named as bound_to, to_iterator, to
 use Rattle.machine.specs.Typing.{Typing}
 use Rattle.machine.specs.Views.{View, shape_at}
 use Rattle.read_chain.specs.ListLookUps.{is_asked_at_once}
-use Rattle.read_chain.specs.Reads.{is_look_up}
+use Rattle.read_chain.specs.Reads.{is_looked_up}
 use Rattle.script_text.specs.declared.lines.Line.TheVariants as form
 use Rattle.script_text.specs.declared.lines.Part.{Part as Placed}
 use Rattle.script_text.specs.declared.lines.Slice.{Slice}
@@ -26,7 +26,7 @@ use Rattle.vocabulary.specs.declared.calls.Call.{Call}
 use Rattle.vocabulary.specs.declared.lines.Fault.{Fault}
 use Rattle.vocabulary.specs.declared.lines.Purpose.TheVariants as purpose
 use Rattle.vocabulary.specs.Shapes.{is_keyed}
-use Rattle.write_chain.specs.Calls.{is_removed_at_once, is_single}
+use Rattle.write_chain.specs.Calls.{is_forced, is_removed_at_once, is_single}
 
 -- what asks nothing keeps any bound
 pub asks_nothing : (most : Option ℕ) (n : ℕ) → AsksAtMost most n n
@@ -55,16 +55,17 @@ if_at_most true most rest before after here there = here refl
 if_at_most false most rest before after here there = there
 
 -- the bounds of a call, by what it is
-pub call_bound : (world : World) (v : View) (call : Call) (before after : ℕ) → (is_look_up call ≡ true → is_keyed (shape_at world v) ≡ true → after ≤ before + 1) → (is_asked_at_once world v call ≡ true → after ≤ before + 1)
-    → (is_removed_at_once world v call ≡ true → after ≤ before + 2) → (is_single call ≡ true → is_keyed (shape_at world v) ≡ true → after ≤ before + 3) → AsksAtMost (most_of_call world v call) before after
-call_bound world v call before after looked asked removed single =
-    let looks = is_look_up call in
+pub call_bound : (world : World) (v : View) (call : Call) (before after : ℕ) → (is_looked_up (shape_at world v) call ≡ true → after ≤ before + 1) → (is_asked_at_once world v call ≡ true → after ≤ before + 1)
+    → (is_removed_at_once world v call ≡ true → after ≤ before + 2) → (is_single call ≡ true → is_keyed (shape_at world v) ≡ true → after ≤ before + 3) → (is_forced call ≡ true → after ≤ before + 4)
+    → AsksAtMost (most_of_call world v call) before after
+call_bound world v call before after looked asked removed single forced =
+    let looks = is_looked_up (shape_at world v) call in
     let at_once = is_asked_at_once world v call in
     let one = is_single call in
     let keyed = is_keyed (shape_at world v) in
-    if_at_most ((looks && keyed) || at_once) 1 _ before after (either (looks && keyed) at_once (after ≤ before + 1) (λ h. looked (first_of looks keyed h) (second_of looks keyed h)) asked)
+    if_at_most (looks || at_once) 1 _ before after (either looks at_once (after ≤ before + 1) looked asked)
     (if_at_most (is_removed_at_once world v call) 2 _ before after removed
-    (if_at_most (one && keyed) 3 None before after (λ h. single (first_of one keyed h) (second_of one keyed h)) tt))
+    (if_at_most (one && keyed) 3 _ before after (λ h. single (first_of one keyed h) (second_of one keyed h)) (if_at_most (is_forced call) 4 None before after forced tt)))
 
 -- ---- the words behind a name
 

@@ -1,12 +1,12 @@
 -- How often a line asks the bases: an upper bound, where there is one.
 use Rattle.std.specs.Prelude.{ℕ, ◌+◌, ◌≤◌, ◌&&◌, ◌||◌, if◌then◌else◌, List, Option, None, Some, Result, Ok, Err}
 use Rattle.machine.specs.Bases.{World}
-use Rattle.machine.specs.Meanings.{Ending, calls}
+use Rattle.machine.specs.Meanings.{Ending, calls, calls_for, calls_with, makes, shows}
 use Rattle.machine.specs.Parts.{Part}
 use Rattle.machine.specs.State.{Bound, State, named, to_iterator, to_view}
 use Rattle.machine.specs.Views.{View, shape_at}
 use Rattle.read_chain.specs.ListLookUps.{is_asked_at_once}
-use Rattle.read_chain.specs.Reads.{is_look_up}
+use Rattle.read_chain.specs.Reads.{is_looked_up}
 use Rattle.script_text.specs.Lines.{line_of}
 use Rattle.script_text.specs.Trees.{Tree}
 use Rattle.script_text.specs.Trees as line
@@ -15,19 +15,21 @@ use Rattle.vocabulary.specs.declared.calls.Call.{Call}
 use Rattle.vocabulary.specs.declared.lines.Fault.{Fault}
 use Rattle.vocabulary.specs.declared.lines.Purpose.TheVariants as purpose
 use Rattle.vocabulary.specs.Shapes.{is_keyed}
-use Rattle.write_chain.specs.Calls.{is_removed_at_once, is_single}
+use Rattle.write_chain.specs.Calls.{is_forced, is_removed_at_once, is_single}
 
 -- no more calls than that, where there is a bound
 abbrev pub AsksAtMost : Option ℕ → ℕ → ℕ → Type 0
 AsksAtMost None before after = Unit {0}
 AsksAtMost (Some most) before after = after ≤ before + most
 
--- a look-up asks once; a removal that a list finds at once, twice; what puts or removes one item by its key, three times
+-- a look-up asks once; a removal that a list finds at once, twice; what puts or removes one item by its key, three times;
+-- and a pair that takes its partners from others, four times
 abbrev pub most_of_call : World → View → Call → Option ℕ
 most_of_call world v call =
-    if (is_look_up call && is_keyed (shape_at world v)) || is_asked_at_once world v call then Some 1
+    if is_looked_up (shape_at world v) call || is_asked_at_once world v call then Some 1
     else if is_removed_at_once world v call then Some 2
-    else if is_single call && is_keyed (shape_at world v) then Some 3 else None
+    else if is_single call && is_keyed (shape_at world v) then Some 3
+    else if is_forced call then Some 4 else None
 
 -- a view is printed by a walk, and another view is read whole
 abbrev pub most_at : World → View → Ending → Option ℕ

@@ -6,18 +6,12 @@ use Rattle.vocabulary.specs.declared.items.Side.TheVariants.{First, Second}
 use Rattle.vocabulary.specs.declared.kinds.Kind.{Kind}
 use Rattle.vocabulary.specs.Kinds.{order_of_kind, shape_of_kind}
 use Rattle.vocabulary.specs.Orders.{upto}
-use Rattle.vocabulary.specs.declared.shapes.Shape.{Shape}
-use Rattle.vocabulary.specs.Shapes.{is_bimap, is_keyed, is_sorted}
+use Rattle.vocabulary.specs.Shapes.{is_sorted, is_unique}
 use Rattle.view_laws.specs.declared.lanes.Lane.{Lane}
 use Rattle.view_laws.specs.declared.lanes.PartAsk.{PartAsk}
 use Rattle.view_laws.specs.declared.lanes.PartAsk.TheVariants.{Any, Is, Within, Nothing}
 use Rattle.view_laws.specs.declared.lanes.Pick.TheVariants.{Each}
 use Rattle.view_laws.specs.Narrowing.{asking, is_any}
-
--- whether no two items of views of a shape share a part: the keys where they go by key, and in a bimap the values, too
-abbrev pub is_unique : Shape → Side → Bool
-is_unique of First = is_keyed of
-is_unique of Second = is_bimap of
 
 -- what may be asked of a part of its rows: one element where no two rows share that part, a window of keys where it is
 -- sorted in that order
@@ -26,8 +20,7 @@ ServesPart kind side Any = Unit {0}
 ServesPart kind side (Is x) = is_unique (shape_of_kind kind) side ≡ true
 ServesPart kind First (Within order w) = (is_sorted (shape_of_kind kind) ≡ true) × (order ≡ order_of_kind kind) × (upto order w.lo w.hi ≡ true)
 ServesPart kind Second (Within order w) = ⊥
-ServesPart kind First Nothing = Unit {0}
-ServesPart kind Second Nothing = ⊥
+ServesPart kind side Nothing = Unit {0}
 
 -- a lane of a base of a kind, which asks of one part at most
 pub record Serves (kind : Kind) (lane : Lane) : Type 0 where

@@ -13,7 +13,7 @@ use Rattle.vocabulary.specs.declared.steps.Step.{Step}
 use Rattle.vocabulary.specs.Items.{key_of, part_of, second_of}
 use Rattle.vocabulary.specs.Kinds.{shape_of_kind}
 use Rattle.vocabulary.specs.Known.{is_known_kind}
-use Rattle.vocabulary.specs.Shapes.{is_keyed}
+use Rattle.vocabulary.specs.Shapes.{is_unique}
 use Rattle.vocabulary.specs.Steps.{item_of}
 use Rattle.machine.specs.Bases.{World}
 use Rattle.machine.specs.Leaves.{leaf_at}
@@ -24,18 +24,16 @@ use Rattle.view_laws.specs.declared.lanes.PartAsk.{PartAsk}
 use Rattle.view_laws.specs.declared.lanes.PartAsk.TheVariants.{Any, Is, Within, Nothing}
 use Rattle.view_laws.specs.ItemForms.{has_form}
 use Rattle.view_laws.specs.Lanes.{all, takes}
-use Rattle.view_laws.specs.LookUps.{of_element}
 use Rattle.view_laws.specs.LanesDown.{lane_down}
 use Rattle.view_laws.specs.Narrowing.{is_any, source_of}
 use Rattle.view_laws.specs.RowForm.{form_of}
-use Rattle.view_laws.specs.Serving.{Serves, ServesPart, of_part, is_unique}
+use Rattle.view_laws.specs.Serving.{Serves, ServesPart, of_part}
 use Rattle.view_laws.proofs.PartTable.{part_told}
 use Rattle.view_laws.proofs.TellTable.{told_on_shape}
 use Rattle.view_steps.specs.KnownLanes.{ComesDown, PartDown, part_below}
 use Rattle.view_steps.specs.KnownViews.{is_known_view}
 use Rattle.view_steps.proofs.FormedLemmas.{item_formed}
 use Rattle.view_steps.proofs.ItemLemmas.{item_over}
-use Rattle.view_steps.proofs.KindLemmas.{no_bimap}
 use Rattle.view_steps.proofs.KnownLemmas.{known_over, known_shape}
 use Rattle.view_steps.proofs.LaneLemmas.{AskDown, IsOfPart, ask_down, of_ask}
 use Rattle.view_steps.proofs.ListLemmas.{both as both_true}
@@ -52,7 +50,7 @@ serves kind First ask s = record { keys = s; values = tt; one = one_part (is_any
 serves kind Second Any s = record { keys = tt; values = tt; one = refl; each = refl }
 serves kind Second (Is x) s = record { keys = tt; values = s; one = refl; each = refl }
 serves kind Second (Within order w) s = absurd s
-serves kind Second Nothing s = absurd s
+serves kind Second Nothing s = record { keys = tt; values = tt; one = refl; each = refl }
 
 -- what comes down serves as a lane
 abbrev comes : (world : World) (v : View) (side : Side) (ask : PartAsk) (back : Bool) (lane : Lane) → lane ≡ of_ask side ask → AskDown world v side ask back → ComesDown world v lane back
@@ -118,33 +116,3 @@ part_kept world (over it v) side row known kind made unique h =
     ∙ part_kept world v p.below row parts.1 kind made.1 p.unique h
     ∙ ap (λ (s : Side). part_of (part_below v s) row) (sym (part_from_below it side p.below p.from))
 part_kept world (both word v u) side row known kind made unique h = absurd (cc)
-
--- ---- keys
-
--- in a known base rows are told apart by their keys alone
-keys_below : (world : World) (v : View) → is_known_view v ≡ true → is_known_kind (leaf_at world (base_under v)).kind ≡ true → IsMade world v → is_keyed (shape_at world v) ≡ true → part_below v First ≡ First
-keys_below world v known kind made keyed = by (part_below v First) (unique_below world v First known kind made keyed)
-  where
-    by : (side : Side) → is_unique (shape_of_kind (leaf_at world (base_under v)).kind) side ≡ true → side ≡ First
-    by First unique = refl
-    by Second unique = let e : true ≡ false = sym unique ∙ no_bimap (leaf_at world (base_under v)).kind kind in absurd (cc)
-
--- a lane that such a base serves asks of the keys alone
-pub keys_alone : (kind : Kind) (lane : Lane) → is_known_kind kind ≡ true → Serves kind lane → lane.second ≡ Any
-keys_alone kind lane known serves = by lane.second serves.values
-  where
-    by : (ask : PartAsk) → ServesPart kind Second ask → ask ≡ Any
-    by Any s = refl
-    by (Is x) s = let e : true ≡ false = sym s ∙ no_bimap kind known in absurd (cc)
-    by (Within order w) s = absurd s
-    by Nothing s = absurd s
-
--- what asks for a key comes down to a lane that takes the rows of that key alone
-pub record KeyDown (world : World) (v : View) (k : Elem) (back : Bool) : Type 0 where
-  pub down : ComesDown world v (of_element k) back
-  pub alone : (row : Item) → takes down.below row ≡ true → same k (key_of row) ≡ true
-
-pub key_comes_down : (world : World) (v : View) (k : Elem) (back : Bool) → is_known_view v ≡ true → is_known_kind (leaf_at world (base_under v)).kind ≡ true → IsMade world v → is_keyed (shape_at world v) ≡ true → KeyDown world v k back
-key_comes_down world v k back known kind made keyed =
-    let d = part_comes_down world v First k back known kind made keyed in
-    record { down = d.down; alone = λ row h. subst (λ (side : Side). same k (part_of side row) ≡ true) (keys_below world v known kind made keyed) (d.alone row h) }

@@ -26,11 +26,6 @@ no_bag TreeMultisetReverse h = absurd (cc)
 no_bag TreeMultisetLength h = absurd (cc)
 no_bag _ h = refl
 
--- no known kind is that of a bimap
-pub no_bimap : (kind : Kind) → is_known_kind kind ≡ true → is_bimap (shape_of_kind kind) ≡ false
-no_bimap HashBiMap h = absurd (cc)
-no_bimap _ h = refl
-
 -- a base of a known kind has so many rows
 pub counts_rows : (it : Base) → is_known_kind it.kind ≡ true → rows_of it ≡ length it.rows
 counts_rows it h = ap (λ b. cond b (length (each_once (map key_of it.rows))) (length it.rows)) (no_bag it.kind h)

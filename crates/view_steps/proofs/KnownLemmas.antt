@@ -274,18 +274,6 @@ pub step_swaps : (step : Step) (v : View) → is_swapped (over step v) ≡ cond 
 step_swaps (Plain Inverse) v = refl
 step_swaps _ v = refl
 
-no_exchange : (step : Step) → is_known step ≡ true → exchanges step ≡ false
-no_exchange (Plain Inverse) h = absurd (cc)
-no_exchange _ h = refl
-
--- no known step exchanges keys and values
-pub not_swapped : (v : View) → is_known_view v ≡ true → is_swapped v ≡ false
-not_swapped (base l) h = refl
-not_swapped (over step v) h =
-    let parts = known_over step v h in
-    step_swaps step v ∙ ap (λ b. cond b (not (is_swapped v)) (is_swapped v)) (no_exchange step parts.0) ∙ not_swapped v parts.1
-not_swapped (both word v u) h = refl
-
 -- where they stand as in the base, a row goes where its base puts it
 pub goes_by_itself : (v : View) → is_swapped v ≡ false → own_spot v ≡ Own
 goes_by_itself v h = rw h refl

@@ -15,7 +15,7 @@ use Rattle.vocabulary.specs.declared.steps.Step.{Step}
 use Rattle.vocabulary.specs.declared.steps.Step.TheVariants as step
 use Rattle.vocabulary.specs.Known.{is_known_kind}
 use Rattle.vocabulary.specs.Orders.{upto, encloses, lies_in, same_order}
-use Rattle.vocabulary.specs.Shapes.{is_sorted}
+use Rattle.vocabulary.specs.Shapes.{is_sorted, is_unique}
 use Rattle.vocabulary.specs.Steps.{family_of}
 use Rattle.machine.specs.Bases.{World}
 use Rattle.machine.specs.KeptSteps.{order_at, window_at}
@@ -30,7 +30,7 @@ use Rattle.view_laws.specs.GroupOrders.{group_order_at}
 use Rattle.view_laws.specs.LanesDown.{lane_down}
 use Rattle.view_laws.specs.Narrowing.{asked_by, asking, asks_moved, both_asks, flipped, moved, narrow, narrow_in, source_of, with_ask, with_first}
 use Rattle.view_laws.specs.ShapeNarrowing.{narrow_on, tells_on, told_if_asked}
-use Rattle.view_laws.specs.Serving.{ServesPart, is_unique}
+use Rattle.view_laws.specs.Serving.{ServesPart}
 use Rattle.view_steps.specs.KnownLanes.{part_below, part_from}
 use Rattle.view_steps.specs.KnownViews.{is_known, is_known_view}
 use Rattle.view_laws.proofs.LiftTable.{leaves_items}
@@ -124,8 +124,7 @@ HasAsk world v side Any = Unit {0}
 HasAsk world v side (Is x) = is_unique (shape_at world v) side ≡ true
 HasAsk world v First (Within order w) = (is_sorted (shape_at world v) ≡ true) × (order ≡ order_at world v) × (upto order w.lo w.hi ≡ true) × (encloses order (window_at v) w ≡ true)
 HasAsk world v Second (Within order w) = ⊥
-HasAsk world v First Nothing = Unit {0}
-HasAsk world v Second Nothing = ⊥
+HasAsk world v side Nothing = Unit {0}
 
 -- what asks for an element in a part, or for nothing
 abbrev pub IsOfPart : Side → Elem → Side → PartAsk → Type 0
@@ -278,7 +277,7 @@ ask_below world it v order First (Within o w) s has =
     under_window world it v order o w s (keys_from world it v s sorted has.0) sorted has
 ask_below world it v order Second (Within o w) s has = absurd has
 ask_below world it v order First Nothing s has = under_nothing world it v order s
-ask_below world it v order Second Nothing s has = absurd has
+ask_below world it v order Second Nothing s has = let b = under_nothing world it v order s in record { part = b.part; below = b.below; down = b.down; has = b.has; of_part = λ t x is. b.of_part t x is }
 
 pub record AskDown (world : World) (v : View) (side : Side) (ask : PartAsk) (back : Bool) : Type 0 where
   pub part : Side
@@ -295,7 +294,7 @@ at_base world l side (Is x) has = has
 at_base world l First (Within order w) has = (has.0, has.1, has.2)
 at_base world l Second (Within order w) has = absurd has
 at_base world l First Nothing has = tt
-at_base world l Second Nothing has = absurd has
+at_base world l Second Nothing has = tt
 
 pub ask_down : (world : World) (v : View) (side : Side) (ask : PartAsk) (back : Bool) → is_known_view v ≡ true → is_known_kind (leaf_at world (base_under v)).kind ≡ true → IsMade world v → HasAsk world v side ask → AskDown world v side ask back
 ask_down world (base l) side ask back known kind made has = record { part = side; below = ask; from_back = back; down = refl; served = at_base world l side ask has; of_part = λ t x is. is }

@@ -16,8 +16,7 @@ use Rattle.vocabulary.specs.declared.steps.Step.{Step}
 use Rattle.vocabulary.specs.declared.steps.Step.TheVariants as step
 use Rattle.vocabulary.specs.Kinds.{shape_of_kind}
 use Rattle.vocabulary.specs.Known.{is_known_kind}
-use Rattle.vocabulary.specs.Shapes.{is_bimap, is_keyed, is_sorted}
-use Rattle.view_laws.specs.Serving.{is_unique}
+use Rattle.vocabulary.specs.Shapes.{is_bimap, is_keyed, is_sorted, is_unique}
 use Rattle.vocabulary.specs.StepShapes.{apply, on_bimap, on_coll, on_list, on_map, on_set}
 use Rattle.vocabulary.specs.Steps.{form_of_step}
 use Rattle.machine.specs.Bases.{Base, World}

@@ -7,6 +7,7 @@ use Rattle.vocabulary.specs.declared.items.Side.{Side}
 use Rattle.vocabulary.specs.Items.{part_of}
 use Rattle.vocabulary.specs.Kinds.{shape_of_kind}
 use Rattle.vocabulary.specs.Known.{is_known_kind}
+use Rattle.vocabulary.specs.Shapes.{is_unique}
 use Rattle.machine.specs.Bases.{World}
 use Rattle.machine.specs.Leaves.{leaf_at}
 use Rattle.machine.specs.MadeViews.{IsMade}
@@ -17,7 +18,7 @@ use Rattle.view_laws.specs.Lanes.{all, takes}
 use Rattle.view_laws.specs.LanesDown.{lane_down}
 use Rattle.view_laws.specs.Narrowing.{source_of}
 use Rattle.view_laws.specs.RowForm.{form_of}
-use Rattle.view_laws.specs.Serving.{Serves, of_part, is_unique}
+use Rattle.view_laws.specs.Serving.{Serves, of_part}
 use Rattle.view_steps.specs.KnownViews.{is_known_view}
 
 -- a lane of a view comes down to one that its base serves

@@ -13,15 +13,15 @@ use Rattle.vocabulary.specs.declared.calls.OnOther.TheVariants as other
 use Rattle.vocabulary.specs.declared.calls.OnPair.{OnPair}
 use Rattle.vocabulary.specs.declared.calls.OnPair.TheVariants as pair
 use Rattle.vocabulary.specs.declared.kinds.Kind.{Kind}
-use Rattle.vocabulary.specs.declared.kinds.Kind.TheVariants.{ArrayList, LinkedHashSet, TreeSet, TreeSetReverse, TreeSetLength, LinkedHashMap, TreeMap, TreeMapReverse, TreeMapLength}
+use Rattle.vocabulary.specs.declared.kinds.Kind.TheVariants.{ArrayList, LinkedHashSet, TreeSet, TreeSetReverse, TreeSetLength, LinkedHashMap, TreeMap, TreeMapReverse, TreeMapLength, HashBiMap}
 use Rattle.vocabulary.specs.declared.steps.PlainStep.{PlainStep}
-use Rattle.vocabulary.specs.declared.steps.PlainStep.TheVariants.{Reverse, KeySet, Values, EntrySet, Descending, Unmodifiable}
+use Rattle.vocabulary.specs.declared.steps.PlainStep.TheVariants.{Reverse, KeySet, Values, EntrySet, Descending, Inverse, Unmodifiable}
 use Rattle.vocabulary.specs.declared.steps.StepForm.{StepForm}
 use Rattle.vocabulary.specs.declared.steps.StepForm.TheVariants as step
 use Rattle.vocabulary.specs.declared.words.Action.{Action}
 use Rattle.vocabulary.specs.declared.words.Action.TheVariants as action
 
--- lists, sets and maps
+-- lists, sets, maps and bimaps
 abbrev pub is_known_kind : Kind → Bool
 is_known_kind ArrayList = true
 is_known_kind LinkedHashSet = true
@@ -32,6 +32,7 @@ is_known_kind LinkedHashMap = true
 is_known_kind TreeMap = true
 is_known_kind TreeMapReverse = true
 is_known_kind TreeMapLength = true
+is_known_kind HashBiMap = true
 is_known_kind kind = false
 
 abbrev pub is_known_plain : PlainStep → Bool
@@ -40,6 +41,7 @@ is_known_plain KeySet = true
 is_known_plain Values = true
 is_known_plain EntrySet = true
 is_known_plain Descending = true
+is_known_plain Inverse = true
 is_known_plain Unmodifiable = true
 is_known_plain word = false
 
@@ -75,6 +77,7 @@ is_known_element word = false
 
 abbrev pub is_known_pair : OnPair → Bool
 is_known_pair pair.Put = true
+is_known_pair pair.ForcePut = true
 is_known_pair pair.ContainsEntry = true
 is_known_pair pair.RemoveEntry = true
 is_known_pair word = false
@@ -100,7 +103,7 @@ form_of_call (made.Span word s) = call.Span word
 form_of_call (made.SpanValue word s v) = call.SpanValue word
 form_of_call (made.Build word item) = call.Build word
 
--- calls on the views of lists, sets and maps
+-- calls on the views of lists, sets, maps and bimaps
 abbrev pub is_known_call : CallForm → Bool
 is_known_call (call.Ask word) = is_known_ask word
 is_known_call (call.Element word) = is_known_element word

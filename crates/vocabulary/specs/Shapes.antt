@@ -1,5 +1,7 @@
 -- The sorts of shapes, and which shapes are sorted, go by key, or are collections of elements.
 use Rattle.std.specs.Prelude.{Bool, true, false}
+use Rattle.vocabulary.specs.declared.items.Side.{Side}
+use Rattle.vocabulary.specs.declared.items.Side.TheVariants.{First, Second}
 use Rattle.vocabulary.specs.declared.shapes.GroupSort.{GroupSort}
 use Rattle.vocabulary.specs.declared.shapes.GroupSort.TheVariants.{Values, RowCells, ColumnCells}
 use Rattle.vocabulary.specs.declared.shapes.RowSort.TheVariants as rows
@@ -87,6 +89,11 @@ is_map other = false
 abbrev pub is_bimap : Shape → Bool
 is_bimap shape.BiMap = true
 is_bimap other = false
+
+-- whether no two items of such a view share this part: the keys where it goes by key, and in a bimap the values, too
+abbrev pub is_unique : Shape → Side → Bool
+is_unique of First = is_keyed of
+is_unique of Second = is_bimap of
 
 abbrev pub is_multimap : Shape → Bool
 is_multimap (shape.Multimap values sorted) = true

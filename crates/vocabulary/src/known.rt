@@ -4,7 +4,7 @@ ghost use Rattle.vocabulary.specs.Known as spec;
 
 use crate::{Action, Ask, CallForm, Kind, OnElement, OnOther, OnPair, PlainStep, StepForm};
 
-/// Whether bases of a kind can be made: lists, sets and maps.
+/// Whether bases of a kind can be made: lists, sets, maps and bimaps.
 pub fn is_known_kind(kind: Kind) -> bool
     ensures { result ≡ spec.is_known_kind kind }
 {
@@ -19,6 +19,7 @@ pub fn is_known_kind(kind: Kind) -> bool
             | Kind::TreeMap
             | Kind::TreeMapReverse
             | Kind::TreeMapLength
+            | Kind::HashBiMap
     )
 }
 
@@ -45,6 +46,7 @@ pub fn is_known_step(form: StepForm) -> bool
                 | PlainStep::Values
                 | PlainStep::EntrySet
                 | PlainStep::Descending
+                | PlainStep::Inverse
                 | PlainStep::Unmodifiable
         ),
         StepForm::Filter(_) | StepForm::FilterPairs | StepForm::Change(_) | StepForm::Within =>
@@ -53,7 +55,7 @@ pub fn is_known_step(form: StepForm) -> bool
     }
 }
 
-/// Whether the call can be made: one on the views of lists, sets and maps.
+/// Whether the call can be made: one on the views of lists, sets, maps and bimaps.
 pub fn is_known_call(form: CallForm) -> bool
     ensures { result ≡ spec.is_known_call form }
 {
@@ -63,7 +65,7 @@ pub fn is_known_call(form: CallForm) -> bool
         CallForm::Index(_) | CallForm::Indexed(_) => true,
         CallForm::Pair(word) => matches!(
             word,
-            OnPair::Put | OnPair::ContainsEntry | OnPair::RemoveEntry
+            OnPair::Put | OnPair::ForcePut | OnPair::ContainsEntry | OnPair::RemoveEntry
         ),
         CallForm::Other(word) => is_known_other(word),
         _ => false,

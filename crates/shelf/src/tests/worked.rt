@@ -1,7 +1,7 @@
 //! Scripts, each with what it writes.
 
 /// A script, and its transcript.
-pub const WORKED: [(&[u8], &[u8]); 17] = [
+pub const WORKED: [(&[u8], &[u8]); 19] = [
     // An empty script.
     (b"", b""),
     // Every kind, and its order.
@@ -73,6 +73,16 @@ pub const WORKED: [(&[u8], &[u8]); 17] = [
     (
         b"new s LinkedHashSet\ns.add(2)\ns.add(1)\ns.add(2)\nlet m = s.asMap(times(10))\nm\nm.put(3, 30)\nm.remove(2)\ns\nm.containsKey(1)\nnew t LinkedHashSet\nt.add(3)\nt.add(1)\ns.addAll(t)\ns.addAll(t)\ns\ns.retainAll(t)\ns.containsAll(t)\nt.clear\ns.retainAll(t)\ns\n",
         b"ok\ntrue\ntrue\nfalse\nok\n{2=20, 1=10}\nUnsupportedOperationException\n20\n[1]\ntrue\nok\ntrue\ntrue\ntrue\nfalse\n[1, 3]\nfalse\ntrue\nok\ntrue\n[]\n",
+    ),
+    // A bimap: a value that is another key's is refused, and taken by force, from either side.
+    (
+        b"new b HashBiMap\nb.put(one, 1)\nb.put(two, 2)\nb.put(four, 2)\nb.put(one, 1)\nb.put(one, 9)\nlet i = b.inverse\ni\ni.put(2, one)\ni.put(2, zwei)\nb\ni.put(7, seven)\nb.forcePut(zwei, 9)\nb\ni.forcePut(9, seven)\nb\nb.remove(x)\ni.remove(9)\ni\n",
+        b"ok\nnull\nnull\nIllegalArgumentException\n1\n1\nok\n{9=one, 2=two}\nIllegalArgumentException\ntwo\n{one=9, zwei=2}\nnull\n2\n{zwei=9, seven=7}\nzwei\n{seven=9}\nnull\nseven\n{}\n",
+    ),
+    // Views of a bimap, looked up and written through by either part.
+    (
+        b"new b HashBiMap\nb.put(a, 1)\nb.put(sun, 3)\nb.put(c, 5)\nb.values\nb.values.contains(5)\nb.values.add(6)\nb.values.remove(5)\nb.containsValue(5)\nb.inverse.containsKey(3)\nb.inverse.get(3)\nlet f = b.filterKeys(starts(s))\nf.put(x, 5)\nf.inverse.put(4, sky)\nb\nf.inverse.forcePut(1, sea)\nb\nb.transformValues(neg)\nb.transformValues(neg).put(q, 1)\nb.entrySet.contains(sky, 4)\nb.inverse.entrySet.remove(4, sky)\nb.unmodifiable.forcePut(k, 1)\nnew v ArrayList\nv.add(1)\nv.add(8)\nf.values.retainAll(v)\nb\nb.values.removeAll(v)\nb\nb.isEmpty\nv.forcePut(1, 2)\n",
+        b"ok\nnull\nnull\nnull\n[1, 3, 5]\ntrue\nUnsupportedOperationException\ntrue\nfalse\ntrue\nsun\nok\nIllegalArgumentException\nnull\n{a=1, sun=3, sky=4}\nnull\n{sea=1, sun=3, sky=4}\n{sea=-1, sun=-3, sky=-4}\nUnsupportedOperationException\ntrue\ntrue\nUnsupportedOperationException\nok\ntrue\ntrue\ntrue\n{sea=1}\ntrue\n{}\ntrue\n?call\n",
     ),
     // What goes from a window goes from there alone, and of many elements each goes.
     (

@@ -25,4 +25,4 @@ pub returns-clause-asked : goal.returns-clause-asked
 returns-clause-asked g c =
     let s = c.args.store.now in
     let h = c.call-answer.ensures in
-    call_bound s.world (view_in s c.args.n) c.args.call.now c.args.steps.now c.call-answer.new.steps h.looks_up h.at_once h.removes_at_once h.steps
+    call_bound s.world (view_in s c.args.n) c.args.call.now c.args.steps.now c.call-answer.new.steps h.looks_up h.at_once h.removes_at_once h.steps h.forced
