@@ -44,7 +44,7 @@ module _ {V : Type 0} where
   flat_in_order (g ∷ gs) s a = group_in_order g.0 g.1 (flat gs) a.0.1 (first_of_groups g.0 gs s.0) (flat_in_order gs s.1 a.1)
 
   -- ---- the first row of a part
-  group_kept : (P : Elem → Bool) (q : Elem) (rows : List (Elem × (Elem × V))) → P q ≡ true → group q (filter (λ (r : Elem × (Elem × V)). P r.0) rows) ≡ group q rows
+  pub group_kept : (P : Elem → Bool) (q : Elem) (rows : List (Elem × (Elem × V))) → P q ≡ true → group q (filter (λ (r : Elem × (Elem × V)). P r.0) rows) ≡ group q rows
   group_kept P q [] h = refl
   group_kept P q (r ∷ rows) h = by (same q r.0) refl (P r.0) refl (group_kept P q rows h)
     where

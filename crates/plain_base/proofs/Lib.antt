@@ -6,6 +6,7 @@ pub mod PutRows
 pub mod GroupsLemmas
 pub mod TwoKeysLemmas
 pub mod BothOrder
+pub mod BothBack
 pub mod Results
 pub mod Settling
 pub mod Having

@@ -4,7 +4,7 @@ use Rattle.std.specs.Option.{option_map}
 use Rattle.std.specs.List.{AllByRecursion}
 use Rattle.elem.specs.declared.elements.Elem.{Elem}
 use Rattle.elem.specs.Orders.{natural_before}
-use Rattle.elem.specs.Rows.{first_key}
+use Rattle.elem.specs.Rows.{first_key, last_key}
 use Rattle.plain_base.specs.Sorted.{IsInOrder, rows_above, rows_below}
 use Rattle.plain_base.specs.TwoKeys.{beside, group}
 
@@ -38,6 +38,11 @@ module _ {V : Type 0} where
   abbrev pub first_pair_of : Option Elem → List (Elem × (Elem × V)) → Option (Elem × Elem)
   first_pair_of None rows = None
   first_pair_of (Some k) rows = option_map (λ x. (k, x)) (first_key (group k rows))
+
+  -- the last row of a key
+  abbrev pub last_pair_of : Option Elem → List (Elem × (Elem × V)) → Option (Elem × Elem)
+  last_pair_of None rows = None
+  last_pair_of (Some k) rows = option_map (λ x. (k, x)) (last_key (group k rows))
 
   -- rows in order, at least one
   abbrev pub IsGroup : Elem × List (Elem × V) → Type 0

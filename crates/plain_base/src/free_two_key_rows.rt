@@ -8,7 +8,7 @@ ghost use Rattle.elem.specs.Orders.{natural_before};
 ghost use Rattle.elem.specs.Rows.{first_key, last_key, key_after, key_before};
 ghost use Rattle.plain_base.specs.Sorted.{IsInOrder, rows_above, rows_below, rows_between};
 ghost use Rattle.plain_base.specs.TwoKeys.{same_both, group, by_both, HasBoth, IsInBothOrder, without_group, without_both, with_both};
-ghost use Rattle.plain_base.specs.Groups.{rows_in, first_pair_of};
+ghost use Rattle.plain_base.specs.Groups.{rows_in, first_pair_of, last_pair_of};
 
 use crate::FreeTreeMapRows;
 use crate::groups::{add_row, drop_row, put_rows};
@@ -195,6 +195,25 @@ impl<V: Copy> FreeTwoKeyRows<V> {
         }
     }
 
+    /// The keys of the last row.
+    pub fn last_both(&self) -> Option<(Elem, Elem)>
+        ensures { result ≡ last_key (by_both self.now) }
+    {
+        self.last_pair_of(self.last())
+    }
+
+    /// The keys of the row before that of `k` and `x`.
+    pub fn before_both(&self, k: &Elem, x: &Elem) -> Option<(Elem, Elem)>
+        requires { HasBoth self.now k.now x.now }
+        ensures { result ≡ key_before (same_both (k.now, x.now)) (by_both self.now) }
+    {
+        let _ = &self.groups;
+        match self.before_in(k, x) {
+            Some(previous) => Some((*k, previous)),
+            None => self.last_pair_of(self.next_below(k)),
+        }
+    }
+
     /// A first key's second key number `i`, found by walking there.
     pub fn at(&self, k: &Elem, i: usize) -> Option<Elem>
         ensures { result ≡ slice_get (keys_of (group k.now self.now)) i }
@@ -297,6 +316,25 @@ impl<V: Copy> FreeTwoKeyRows<V> {
         let key = k?;
         let first = self.first_of(&key)?;
         Some((key, first))
+    }
+
+    /// The keys of a first key's last row.
+    fn last_pair_of(&self, k: Option<Elem>) -> Option<(Elem, Elem)>
+        ensures { result ≡ last_pair_of k self.now }
+    {
+        let key = k?;
+        let last = self.last_of(&key)?;
+        Some((key, last))
+    }
+
+    /// The last of a first key's second keys.
+    fn last_of(&self, k: &Elem) -> Option<Elem>
+        ensures { result ≡ last_key (group k.now self.now) }
+    {
+        match self.group(k) {
+            Some(group) => group.last(),
+            None => None,
+        }
     }
 
     /// The rows of a first key.

@@ -1,11 +1,11 @@
 -- A row and a column read from the spots of the cells have a cell.
-use Rattle.std.proofs.Common.{◌≡◌, Bool, true, false, cond, List, [], ◌∷◌, Some, refl, ap, ◌∙◌, subst}
+use Rattle.std.proofs.Common.{◌≡◌, ◌⊎◌, inl, inr, Bool, true, false, cond, List, [], ◌∷◌, Option, Some, None, refl, ap, ◌∙◌, subst}
 use Rattle.std.specs.Prelude.{IsSome, is_some}
 use Rattle.std.specs.Map.{lookup}
 use Rattle.elem.specs.declared.elements.Elem.{Elem}
 use Rattle.elem.specs.Elements.{same}
 use Rattle.elem.specs.ElementLaws.{same_equiv}
-use Rattle.elem.specs.Rows.{first_key, key_after}
+use Rattle.elem.specs.Rows.{first_key, last_key, last_key_or, key_after, key_before, key_before_or}
 use Rattle.plain_base.specs.TwoKeys.{by_both}
 use Rattle.table_base.specs.Cells.{Cell, row, HasCell, spot_of, by_spot}
 
@@ -41,3 +41,26 @@ after_spot_there test (x ∷ cells) s e = later x cells s.0 s.1 (by_case (test (
     by_case : (b : Bool) → cond b (first_key (by_spot cells)) (key_after test (by_spot cells)) ≡ Some s → (key_after test (by_spot cells) ≡ Some s → HasCell s.0 s.1 cells) → HasCell s.0 s.1 cells
     by_case true f ih = first_spot_there cells s f
     by_case false f ih = ih f
+
+-- from the back, a spot is the one from which the walk goes on, or one that is there
+last_there_or : (cells : List Cell) (start : Option (Elem × Elem)) (s : Elem × Elem) → last_key_or start (by_spot cells) ≡ Some s → (start ≡ Some s) ⊎ HasCell s.0 s.1 cells
+last_there_or [] start s e = inl e
+last_there_or (x ∷ cells) start s e = elim (last_there_or cells (Some (spot_of x)) s e) [ inl own ↦ inr (here x cells s own) | inr there ↦ inr (later x cells s.0 s.1 there) ]
+
+before_there_or : (test : Elem × Elem → Bool) (cells : List Cell) (start : Option (Elem × Elem)) (s : Elem × Elem) → key_before_or start test (by_spot cells) ≡ Some s → (start ≡ Some s) ⊎ HasCell s.0 s.1 cells
+before_there_or test [] start s e = absurd (cc)
+before_there_or test (x ∷ cells) start s e = by (test (spot_of x)) e (before_there_or test cells (Some (spot_of x)) s)
+  where
+    by : (b : Bool) → cond b start (key_before_or (Some (spot_of x)) test (by_spot cells)) ≡ Some s
+        → (key_before_or (Some (spot_of x)) test (by_spot cells) ≡ Some s → (Some (spot_of x) ≡ Some s) ⊎ HasCell s.0 s.1 cells) → (start ≡ Some s) ⊎ HasCell s.0 s.1 (x ∷ cells)
+    by true f ih = inl f
+    by false f ih = elim (ih f) [ inl own ↦ inr (here x cells s own) | inr there ↦ inr (later x cells s.0 s.1 there) ]
+
+none_is : (s : Elem × Elem) → None ≡ Some s → ⊥
+none_is s e = cc
+
+pub last_spot_there : (cells : List Cell) (s : Elem × Elem) → last_key (by_spot cells) ≡ Some s → HasCell s.0 s.1 cells
+last_spot_there cells s e = elim (last_there_or cells None s e) [ inl none ↦ absurd (none_is s none) | inr there ↦ there ]
+
+pub before_spot_there : (test : Elem × Elem → Bool) (cells : List Cell) (s : Elem × Elem) → key_before test (by_spot cells) ≡ Some s → HasCell s.0 s.1 cells
+before_spot_there test cells s e = elim (before_there_or test cells None s e) [ inl none ↦ absurd (none_is s none) | inr there ↦ there ]

@@ -7,7 +7,7 @@ ghost use Rattle.table_base.specs.declared.spots.Spot.{Spot as TheSpot};
 ghost use Rattle.table_base.specs.Spots.{spot_at, same_spot, hashed_spot, same_spot_equiv, hashed_spot-same};
 
 use elem::{Elem, same};
-use std::collections::HashMap;
+use hash_seed::SeededMap;
 use std::hash::{Hash, Hasher};
 
 /// The row and the column of a cell.
@@ -54,14 +54,14 @@ fn spot_at(row: &Elem, column: &Elem) -> Spot
 }
 
 /// The place of the cell of a row and a column.
-pub fn place_of(index: &HashMap<Spot, usize>, row: &Elem, column: &Elem) -> Option<usize>
+pub fn place_of(index: &SeededMap<Spot, usize>, row: &Elem, column: &Elem) -> Option<usize>
     ensures { result ≡ hash.get same_spot index.now (spot_at row.now column.now) }
 {
     index.get(&spot_at(row, column)).copied()
 }
 
 /// Gives a row and a column a place, for which there is room.
-pub fn write_place(index: &mut HashMap<Spot, usize>, row: &Elem, column: &Elem, place: usize)
+pub fn write_place(index: &mut SeededMap<Spot, usize>, row: &Elem, column: &Elem, place: usize)
     requires { 0 < spare index.old }
     ensures { (q : TheSpot) → hash.get same_spot index.new q ≡ cond (same_spot (spot_at row.now column.now) q) (Some place) (hash.get same_spot index.old q) }
 {
@@ -70,7 +70,7 @@ pub fn write_place(index: &mut HashMap<Spot, usize>, row: &Elem, column: &Elem, 
 }
 
 /// Takes the place of a row and a column out of the index.
-pub fn take_place(index: &mut HashMap<Spot, usize>, row: &Elem, column: &Elem)
+pub fn take_place(index: &mut SeededMap<Spot, usize>, row: &Elem, column: &Elem)
     ensures { (q : TheSpot) → hash.get same_spot index.new q ≡ cond (same_spot (spot_at row.now column.now) q) None (hash.get same_spot index.old q) }
 {
     let at = spot_at(row, column);
