@@ -13,6 +13,7 @@ mod windows;
 use crate::CountRows;
 use crate::count_rows::MOST;
 use elem::{Elem, Natural, NoMemory, Steps};
+use hash_seed::Seed;
 use linked_base::FreeLinkedMap;
 use plain_base::FreeTreeMapRows;
 use std::alloc::Global;
@@ -48,12 +49,19 @@ impl<R: CountRows> Model for Bag<R> {
 }
 
 impl<R: CountRows> Bag<R> {
-    /// A bag with no elements.
+    /// A bag with no elements, under the fixed seed.
     pub fn new(alloc: Global) -> Result<Bag<R>, NoMemory>
         ensures { IfOk result (λ b. b ≡ []) }
     {
+        Bag::with_hasher(alloc, Seed::fixed())
+    }
+
+    /// A bag with no elements, which are hashed by a seed where they are hashed.
+    pub fn with_hasher(alloc: Global, seed: Seed) -> Result<Bag<R>, NoMemory>
+        ensures { IfOk result (λ b. b ≡ []) }
+    {
         Ok(Bag {
-            rows: R::new(alloc),
+            rows: R::with_hasher(alloc, seed),
             total: 0,
         })
     }

@@ -4,6 +4,7 @@ ghost use Rattle.elem.specs.Keyed.{value_at};
 ghost use Rattle.bag_base.specs.Counts.{with_count};
 
 use elem::{Elem, NoMemory};
+use hash_seed::Seed;
 use std::alloc::Global;
 
 /// The greatest count of one element.
@@ -24,8 +25,8 @@ pub trait CountRows: Drop {
     /// The rows with a new one, at the place that the type gives.
     ghost inserted: { List (Elem × ℕ) → Elem → ℕ → List (Elem × ℕ) };
 
-    /// No rows.
-    fn new(alloc: Global) -> Self
+    /// No rows. Where elements are hashed they are by the seed.
+    fn with_hasher(alloc: Global, seed: Seed) -> Self
         ensures { rows result ≡ [] };
 
     /// The number of rows.

@@ -1,6 +1,7 @@
 //! The two kinds of rows in which bags keep their counts.
 use crate::CountRows;
 use elem::{Compare, Elem, NoMemory};
+use hash_seed::Seed;
 use linked_base::FreeLinkedMap;
 use plain_base::FreeTreeMapRows;
 use std::alloc::Global;
@@ -13,8 +14,8 @@ impl CountRows for FreeLinkedMap<u32> {
 
     ghost inserted = { λ rows x n. rows ++ (x, n) ∷ [] };
 
-    fn new(alloc: Global) -> FreeLinkedMap<u32> {
-        FreeLinkedMap::new(alloc)
+    fn with_hasher(alloc: Global, seed: Seed) -> FreeLinkedMap<u32> {
+        FreeLinkedMap::with_hasher(alloc, seed)
     }
 
     fn len(&self) -> usize {
@@ -84,7 +85,7 @@ impl<C: Compare> CountRows for FreeTreeMapRows<u32, C> {
 
     ghost inserted = { placed C.before };
 
-    fn new(alloc: Global) -> FreeTreeMapRows<u32, C> {
+    fn with_hasher(alloc: Global, _seed: Seed) -> FreeTreeMapRows<u32, C> {
         FreeTreeMapRows::new(alloc)
     }
 

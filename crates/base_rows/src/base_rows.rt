@@ -13,6 +13,7 @@ mod reading;
 
 use bimap_base::PairRows;
 use elem::{ByLength, Elem, Keyed, NoMemory, Reverse};
+use hash_seed::Seed;
 use linked_base::{LinkedMap, LinkedSet};
 use plain_base::{ArrayRows, TreeMapRows, TreeSetRows};
 use std::alloc::Global;
@@ -34,23 +35,36 @@ pub enum BaseRows {
 }
 
 impl BaseRows {
-    /// No rows, of a known kind.
+    /// No rows, of a known kind, under the fixed seed.
     pub fn new(alloc: Global, kind: Kind) -> Result<BaseRows, NoMemory>
+        requires known { is_known_kind kind ≡ true }
+        ensures rows { IfOk result (λ base. rows_of base ≡ []) }
+        ensures kind { IfOk result (λ base. kind_of base ≡ kind) }
+    {
+        BaseRows::with_hasher(alloc, Seed::fixed(), kind)
+    }
+
+    /// No rows, of a known kind. What is hashed is hashed by the seed.
+    pub fn with_hasher(alloc: Global, seed: Seed, kind: Kind) -> Result<BaseRows, NoMemory>
         requires known { is_known_kind kind ≡ true }
         ensures rows { IfOk result (λ base. rows_of base ≡ []) }
         ensures kind { IfOk result (λ base. kind_of base ≡ kind) }
     {
         match kind {
             Kind::ArrayList => Ok(BaseRows::ArrayList(ArrayRows::new(alloc))),
-            Kind::LinkedHashSet => Ok(BaseRows::LinkedHashSet(LinkedMap::new(alloc)?)),
+            Kind::LinkedHashSet => Ok(BaseRows::LinkedHashSet(LinkedMap::with_hasher(
+                alloc, seed,
+            )?)),
             Kind::TreeSet => Ok(BaseRows::TreeSet(TreeMapRows::new(alloc))),
             Kind::TreeSetReverse => Ok(BaseRows::TreeSetReverse(TreeMapRows::new(alloc))),
             Kind::TreeSetLength => Ok(BaseRows::TreeSetLength(TreeMapRows::new(alloc))),
-            Kind::LinkedHashMap => Ok(BaseRows::LinkedHashMap(LinkedMap::new(alloc)?)),
+            Kind::LinkedHashMap => Ok(BaseRows::LinkedHashMap(LinkedMap::with_hasher(
+                alloc, seed,
+            )?)),
             Kind::TreeMap => Ok(BaseRows::TreeMap(TreeMapRows::new(alloc))),
             Kind::TreeMapReverse => Ok(BaseRows::TreeMapReverse(TreeMapRows::new(alloc))),
             Kind::TreeMapLength => Ok(BaseRows::TreeMapLength(TreeMapRows::new(alloc))),
-            Kind::HashBiMap => Ok(BaseRows::HashBiMap(PairRows::new(alloc)?)),
+            Kind::HashBiMap => Ok(BaseRows::HashBiMap(PairRows::with_hasher(alloc, seed)?)),
             _ => unreachable!(),
         }
     }

@@ -41,6 +41,7 @@ use base_rows::BaseRows;
 pub use courses::Course;
 use elem::{NoMemory, Window};
 use facts::Facts;
+use hash_seed::Seed;
 use nodes::Nodes;
 use std::alloc::Global;
 use std::marker::Model;
@@ -78,6 +79,7 @@ impl Model for Slot {
 #[derive(Drop)]
 pub struct Store {
     alloc: Global,
+    seed: Seed,
     slots: Vec<Slot>,
     nodes: Nodes,
     handles: usize,
@@ -106,12 +108,20 @@ impl Model for Store {
 }
 
 impl Store {
-    /// A store without bases.
+    /// A store without bases, under the fixed seed.
     pub fn empty(alloc: Global) -> Store
+        ensures { result ≡ record { world = []; nodes = []; lasting = 0; handles = 0 } }
+    {
+        Store::with_hasher(alloc, Seed::fixed())
+    }
+
+    /// A store without bases, which are to hash by a seed.
+    pub fn with_hasher(alloc: Global, seed: Seed) -> Store
         ensures { result ≡ record { world = []; nodes = []; lasting = 0; handles = 0 } }
     {
         Store {
             alloc,
+            seed,
             slots: Vec::new(alloc),
             nodes: Nodes::new(alloc),
             handles: 0,
@@ -135,7 +145,7 @@ impl Store {
         if self.handles == MOST_HANDLES {
             return Err(Refusal::Limit);
         }
-        let Ok(rows) = BaseRows::new(self.alloc, kind) else {
+        let Ok(rows) = BaseRows::with_hasher(self.alloc, self.seed, kind) else {
             return Err(Refusal::NoMemory);
         };
         let number = self.nodes.lasting();
@@ -354,6 +364,11 @@ impl Store {
     /// The allocator of the store.
     pub fn alloc(&self) -> Global {
         self.alloc
+    }
+
+    /// The seed by which the bases hash.
+    pub fn seed(&self) -> Seed {
+        self.seed
     }
 
     /// How many rows may still come.

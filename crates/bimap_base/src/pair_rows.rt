@@ -10,9 +10,9 @@ mod walking;
 use crate::key_index::{key_of, take_key};
 use crate::puts::let_go;
 use elem::{Elem, NoMemory, Steps};
+use hash_seed::{Seed, SeededMap};
 use linked_base::FreeLinkedMap;
 use std::alloc::Global;
-use std::collections::HashMap;
 use std::marker::Model;
 use std::sync::ledger::Ledger;
 
@@ -23,7 +23,7 @@ use std::sync::ledger::Ledger;
 #[derive(Drop)]
 pub struct PairRows {
     rows: FreeLinkedMap<Elem>,
-    keys: HashMap<Elem, Elem>,
+    keys: SeededMap<Elem, Elem>,
 }
 
 impl Model for PairRows {
@@ -41,13 +41,20 @@ impl Model for PairRows {
 }
 
 impl PairRows {
-    /// No pairs.
+    /// No pairs, under the fixed seed.
     pub fn new(alloc: Global) -> Result<PairRows, NoMemory>
         ensures { IfOk result (λ m. m ≡ []) }
     {
+        PairRows::with_hasher(alloc, Seed::fixed())
+    }
+
+    /// No pairs, whose keys and values are hashed by a seed.
+    pub fn with_hasher(alloc: Global, seed: Seed) -> Result<PairRows, NoMemory>
+        ensures { IfOk result (λ m. m ≡ []) }
+    {
         Ok(PairRows {
-            rows: FreeLinkedMap::new(alloc),
-            keys: HashMap::new(alloc),
+            rows: FreeLinkedMap::with_hasher(alloc, seed),
+            keys: SeededMap::with_hasher(alloc, seed),
         })
     }
 
@@ -141,11 +148,12 @@ impl PairRows {
         take_key(&mut self.keys, &v)
     }
 
-    /// Removes every pair.
+    /// Removes every pair, and gives the memory back.
     pub fn clear(&mut self)
         ensures { self.new ≡ [] }
     {
         self.rows.clear();
         self.keys.clear();
+        self.keys.shrink_to_fit();
     }
 }

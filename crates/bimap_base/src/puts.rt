@@ -10,13 +10,13 @@ ghost use Rattle.bimap_base.specs.PairRows.{IsTurned, without_some, in_place_of}
 
 use crate::key_index::{key_of, take_key, write_key};
 use elem::{Elem, NoMemory};
+use hash_seed::SeededMap;
 use linked_base::FreeLinkedMap;
-use std::collections::HashMap;
 
 /// Puts a pair that is not there, and takes the value from another key that has it. The answer is the value before.
 pub fn put_pair(
     rows: &mut FreeLinkedMap<Elem>,
-    keys: &mut HashMap<Elem, Elem>,
+    keys: &mut SeededMap<Elem, Elem>,
     k: &Elem,
     v: &Elem,
 ) -> Result<Option<Elem>, NoMemory>
@@ -43,7 +43,7 @@ pub fn put_pair(
 /// before.
 pub fn flip_put_pair(
     rows: &mut FreeLinkedMap<Elem>,
-    keys: &mut HashMap<Elem, Elem>,
+    keys: &mut SeededMap<Elem, Elem>,
     v: &Elem,
     k: &Elem,
 ) -> Result<Option<Elem>, NoMemory>
@@ -67,7 +67,7 @@ pub fn flip_put_pair(
 }
 
 /// Puts a pair in the place of the one with its key.
-fn put_over(rows: &mut FreeLinkedMap<Elem>, keys: &mut HashMap<Elem, Elem>, k: &Elem, v: &Elem)
+fn put_over(rows: &mut FreeLinkedMap<Elem>, keys: &mut SeededMap<Elem, Elem>, k: &Elem, v: &Elem)
     requires turned { IsTurned rows.old (hash.get same keys.old) }
     requires key { IsPresent rows.old k.now }
     requires new { value_at rows.old k.now ≢ Some v.now }
@@ -85,7 +85,7 @@ fn put_over(rows: &mut FreeLinkedMap<Elem>, keys: &mut HashMap<Elem, Elem>, k: &
 /// Puts a pair of a new key last.
 fn put_new(
     rows: &mut FreeLinkedMap<Elem>,
-    keys: &mut HashMap<Elem, Elem>,
+    keys: &mut SeededMap<Elem, Elem>,
     k: &Elem,
     v: &Elem,
 ) -> Result<(), NoMemory>
@@ -104,7 +104,7 @@ fn put_new(
 }
 
 /// Gives a key that is there another value, in the place of the pair with that value, else last.
-fn flip_over(rows: &mut FreeLinkedMap<Elem>, keys: &mut HashMap<Elem, Elem>, v: &Elem, k: &Elem)
+fn flip_over(rows: &mut FreeLinkedMap<Elem>, keys: &mut SeededMap<Elem, Elem>, v: &Elem, k: &Elem)
     requires turned { IsTurned rows.old (hash.get same keys.old) }
     requires key { IsPresent rows.old k.now }
     requires new { value_at rows.old k.now ≢ Some v.now }
@@ -124,7 +124,7 @@ fn flip_over(rows: &mut FreeLinkedMap<Elem>, keys: &mut HashMap<Elem, Elem>, v: 
 /// Puts a pair of a new key in the place of the one with its value, else last.
 fn flip_new(
     rows: &mut FreeLinkedMap<Elem>,
-    keys: &mut HashMap<Elem, Elem>,
+    keys: &mut SeededMap<Elem, Elem>,
     v: &Elem,
     k: &Elem,
 ) -> Result<(), NoMemory>
@@ -160,7 +160,7 @@ fn put_in_place(
 }
 
 /// Takes out the row of the key that the index gives to a value.
-pub fn let_go(rows: &mut FreeLinkedMap<Elem>, keys: &HashMap<Elem, Elem>, v: &Elem)
+pub fn let_go(rows: &mut FreeLinkedMap<Elem>, keys: &SeededMap<Elem, Elem>, v: &Elem)
     ensures rows { rows.new ≡ without_some (hash.get same keys.now v.now) rows.old }
     ensures distinct { HasDistinctKeys rows.new }
 {

@@ -7,9 +7,9 @@ ghost use Rattle.graph_base.specs.Ends.{Ends, same_ends, ends};
 ghost use Rattle.graph_base.specs.Numbers.{number};
 
 use elem::{Elem, natural_order, same};
+use hash_seed::SeededMap;
 use linked_base::FreeLinkedMap;
 use mm_base::PairId;
-use std::collections::HashMap;
 
 /// An edge, the ids of its halves, and the place that gave it its number. A loop has one half, its first.
 #[derive(Clone, Copy)]
@@ -74,7 +74,7 @@ pub fn key_of(directed: bool, a: &Elem, b: &Elem) -> (Elem, Elem)
 
 /// The number of the edge between two nodes.
 pub fn find_number(
-    index: &HashMap<(Elem, Elem), Elem>,
+    index: &SeededMap<(Elem, Elem), Elem>,
     directed: bool,
     a: &Elem,
     b: &Elem,
@@ -86,7 +86,7 @@ pub fn find_number(
 
 /// Gives the ends of an edge its number, for which there is room.
 pub fn write_number(
-    index: &mut HashMap<(Elem, Elem), Elem>,
+    index: &mut SeededMap<(Elem, Elem), Elem>,
     directed: bool,
     a: &Elem,
     b: &Elem,
@@ -100,7 +100,7 @@ pub fn write_number(
 
 /// Takes the number of an edge out.
 pub fn take_number(
-    index: &mut HashMap<(Elem, Elem), Elem>,
+    index: &mut SeededMap<(Elem, Elem), Elem>,
     directed: bool,
     a: &Elem,
     b: &Elem,

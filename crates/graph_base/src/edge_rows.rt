@@ -7,11 +7,11 @@ use crate::edge_row::{
 };
 use crate::halves::{add_halves, drop_halves};
 use elem::{Elem, NoMemory};
+use hash_seed::{Seed, SeededMap};
 use linked_base::FreeLinkedMap;
 use mm_base::FreeFlatPairs;
 use slab::Slab;
 use std::alloc::Global;
-use std::collections::HashMap;
 use std::marker::Model;
 
 /// Edges in the order in which they were first put, at most one between two nodes. Its calls are not counted.
@@ -21,7 +21,7 @@ use std::marker::Model;
 pub struct EdgeRows {
     directed: bool,
     rows: FreeLinkedMap<EdgeRow>,
-    index: HashMap<(Elem, Elem), Elem>,
+    index: SeededMap<(Elem, Elem), Elem>,
     halves: FreeFlatPairs,
     numbers: Slab<()>,
 }
@@ -40,15 +40,15 @@ impl Model for EdgeRows {
 }
 
 impl EdgeRows {
-    /// No edges.
-    pub fn new(alloc: Global, directed: bool) -> EdgeRows
+    /// No edges, whose ends are hashed by a seed.
+    pub fn with_hasher(alloc: Global, seed: Seed, directed: bool) -> EdgeRows
         ensures { result ≡ record { edges = []; directed = directed } }
     {
         EdgeRows {
             directed,
-            rows: FreeLinkedMap::new(alloc),
-            index: HashMap::new(alloc),
-            halves: FreeFlatPairs::new(alloc),
+            rows: FreeLinkedMap::with_hasher(alloc, seed),
+            index: SeededMap::with_hasher(alloc, seed),
+            halves: FreeFlatPairs::with_hasher(alloc, seed),
             numbers: Slab::new(alloc),
         }
     }

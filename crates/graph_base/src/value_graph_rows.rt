@@ -13,6 +13,7 @@ use crate::edge_rows::EdgeRows;
 use crate::graph_edits::{drop_edge, drop_edges_at, is_refused, put_new_edge};
 use crate::{GraphFault, Way};
 use elem::{Elem, NoMemory, Steps};
+use hash_seed::Seed;
 use linked_base::FreeLinkedMap;
 use std::alloc::Global;
 use std::marker::Model;
@@ -41,13 +42,25 @@ impl Model for ValueGraphRows {
 }
 
 impl ValueGraphRows {
-    /// A graph with no nodes.
+    /// A graph with no nodes, under the fixed seed.
     pub fn new(alloc: Global, directed: bool, loops: bool) -> Result<ValueGraphRows, NoMemory>
         ensures { IfOk result (λ g. g ≡ empty directed loops) }
     {
+        ValueGraphRows::with_hasher(alloc, Seed::fixed(), directed, loops)
+    }
+
+    /// A graph with no nodes, which are hashed by a seed.
+    pub fn with_hasher(
+        alloc: Global,
+        seed: Seed,
+        directed: bool,
+        loops: bool,
+    ) -> Result<ValueGraphRows, NoMemory>
+        ensures { IfOk result (λ g. g ≡ empty directed loops) }
+    {
         Ok(ValueGraphRows {
-            nodes: FreeLinkedMap::new(alloc),
-            edges: EdgeRows::new(alloc, directed),
+            nodes: FreeLinkedMap::with_hasher(alloc, seed),
+            edges: EdgeRows::with_hasher(alloc, seed, directed),
             loops,
         })
     }

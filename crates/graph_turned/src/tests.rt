@@ -5,6 +5,7 @@ use crate::Turned;
 use elem::{Elem, Steps};
 use graph_base::{GraphFault, ValueGraphRows};
 use graph_walk::{breadth_first, has_cycle};
+use hash_seed::Seed;
 use std::alloc::Global;
 use std::marker::Brand;
 use std::sync::ledger::{Blank, Ledger};
@@ -56,8 +57,8 @@ fn both_ways<L: Ledger>(alloc: Global, blank: Blank) -> Result<(Vec<Elem>, Vec<E
         turned: true,
     };
     match (
-        breadth_first(alloc, &along, Elem::Int(1), &mut steps),
-        breadth_first(alloc, &against, Elem::Int(4), &mut steps),
+        breadth_first(alloc, Seed::fixed(), &along, Elem::Int(1), &mut steps),
+        breadth_first(alloc, Seed::fixed(), &against, Elem::Int(4), &mut steps),
     ) {
         (Ok(first), Ok(second)) => Ok((first, second)),
         _ => Err(GraphFault::NoMemory),
@@ -82,8 +83,8 @@ fn cycles<L: Ledger>(alloc: Global, blank: Blank) -> Result<(bool, bool), GraphF
         turned: true,
     };
     match (
-        has_cycle(alloc, &with, &mut steps),
-        has_cycle(alloc, &without, &mut steps),
+        has_cycle(alloc, Seed::fixed(), &with, &mut steps),
+        has_cycle(alloc, Seed::fixed(), &without, &mut steps),
     ) {
         (Ok(first), Ok(second)) => Ok((first, second)),
         _ => Err(GraphFault::NoMemory),

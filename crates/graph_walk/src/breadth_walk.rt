@@ -9,12 +9,19 @@ ghost use Rattle.graph_walk.specs.Paths.{calls};
 use crate::found::Found;
 use crate::{WalkFault, Walkable};
 use elem::{Elem, NoMemory, Steps};
+use hash_seed::Seed;
 use std::alloc::Global;
 use std::sync::ledger::Ledger;
 
-/// The nodes to which a path from `a` leads, breadth first: Guava's `Traverser.breadthFirst`.
+/// The nodes to which a path from `a` leads, breadth first: Guava's `Traverser.breadthFirst`, as a list that is made at once.
+///
+/// `a` stands first. A node goes by the edges of a shortest path to it, then by the place of its parent, the first node one
+/// edge nearer that leads to it, then by its place among the next nodes of its parent. It takes O(nodes + edges) of what is
+/// found: the steps are one, and for each node one and one more for each of its next nodes. `WalkFault::NoNode` comes
+/// exactly where `a` is no node.
 pub fn breadth_first<W: Walkable, L: Ledger>(
     alloc: Global,
+    seed: Seed,
     g: &W,
     a: Elem,
     steps: &mut Steps<L>,
@@ -27,7 +34,7 @@ pub fn breadth_first<W: Walkable, L: Ledger>(
     if !g.has(a, steps) {
         return Err(WalkFault::NoNode);
     }
-    let mut found = Found::new(alloc);
+    let mut found = Found::with_hasher(alloc, seed);
     find_from(g, &a, &mut found, steps)?;
     Ok(found.into_list())
 }

@@ -13,13 +13,20 @@ use crate::found::Found;
 use crate::visits::push;
 use crate::{ClosureFault, Walkable};
 use elem::{Elem, NoMemory, Steps};
+use hash_seed::Seed;
 use std::alloc::Global;
 use std::sync::ledger::Ledger;
 
-/// The graph with an edge for each pair of nodes that a path joins: Guava's `Graphs.transitiveClosure`. Each node has a
-/// walk of its own, and no more than `room` nodes and edges, and one row of edges beyond them, are ever held.
+/// The graph with an edge for each pair of nodes that a path joins: Guava's `Graphs.transitiveClosure`. A path of no edge
+/// joins each node to itself.
+///
+/// Nodes go in their order, and edges by their first end and then their second, in the order of the nodes. Without directions
+/// an edge stands only from the end that comes first. Each node has a walk of its own, so it takes O(nodes * (nodes + edges)).
+/// Beside the nodes and one walk, no more than `room` edges and those of one node beyond them are ever held.
+/// `ClosureFault::Limit` comes where nodes and edges together are more than `room`, and never else.
 pub fn closure<W: Walkable, L: Ledger>(
     alloc: Global,
+    seed: Seed,
     g: &W,
     room: u32,
     steps: &mut Steps<L>,
@@ -36,7 +43,7 @@ pub fn closure<W: Walkable, L: Ledger>(
         return Err(ClosureFault::Limit);
     }
     for i in 0..nodes.len() {
-        join(alloc, g, &nodes, i, &mut edges, steps)?;
+        join(alloc, seed, g, &nodes, i, &mut edges, steps)?;
         if edges.len() > room - nodes.len() {
             return Err(ClosureFault::Limit);
         }
@@ -65,6 +72,7 @@ fn nodes_of<W: Walkable, L: Ledger>(
 /// Adds the edges from node number `i`.
 fn join<W: Walkable, L: Ledger>(
     alloc: Global,
+    seed: Seed,
     g: &W,
     nodes: &[Elem],
     i: usize,
@@ -77,7 +85,7 @@ fn join<W: Walkable, L: Ledger>(
 {
     let directed = g.directed();
     let a = nodes[i];
-    let mut found = Found::new(alloc);
+    let mut found = Found::with_hasher(alloc, seed);
     find_from(g, &a, &mut found, steps)?;
     add_joined(nodes, i, &a, directed, &found, edges)?;
     Ok(())

@@ -11,14 +11,18 @@ use crate::depth_stack::DepthWalk;
 use crate::found::Found;
 use crate::visits::{new_walk, visit};
 use elem::{Elem, NoMemory, Steps, same};
+use hash_seed::Seed;
 use std::alloc::Global;
 use std::sync::ledger::Ledger;
 
-/// Whether the graph has a cycle: a path of at least one edge from a node back to itself, which without directions uses no
-/// edge twice: Guava's `Graphs.hasCycle`. It visits all nodes depth first, and then goes once more through the next nodes of
-/// each, so it takes O(nodes + edges).
+/// Whether the graph has a cycle, as Guava's `Graphs.hasCycle`: a path of at least one edge from a node back to itself, which
+/// without directions uses no edge twice. A loop is a cycle.
+///
+/// It visits all nodes depth first, and then goes once more through the next nodes of each, so it takes O(nodes + edges).
+/// `NoMemory` is the only error.
 pub fn has_cycle<W: Walkable, L: Ledger>(
     alloc: Global,
+    seed: Seed,
     g: &W,
     steps: &mut Steps<L>,
 ) -> Result<bool, NoMemory>
@@ -26,9 +30,9 @@ pub fn has_cycle<W: Walkable, L: Ledger>(
     ensures steps { IfOk result (λ found. steps.new ≤ steps.old + 1 + length (W.graph g.now).nodes + 2 * calls (nexts (W.graph g.now)) (W.graph g.now).nodes) }
 {
     let _directed = g.directed();
-    let mut walk = new_walk(alloc);
+    let mut walk = new_walk(alloc, seed);
     visit_all(g, &mut walk, steps)?;
-    let found = closes_some(alloc, g, &walk.left, steps)?;
+    let found = closes_some(alloc, seed, g, &walk.left, steps)?;
     Ok(found)
 }
 
@@ -56,6 +60,7 @@ fn visit_all<W: Walkable, L: Ledger>(
 /// Whether a cycle is closed at some node of a list.
 fn closes_some<W: Walkable, L: Ledger>(
     alloc: Global,
+    seed: Seed,
     g: &W,
     list: &[Elem],
     steps: &mut Steps<L>,
@@ -65,7 +70,7 @@ fn closes_some<W: Walkable, L: Ledger>(
     ensures steps { IfOk result (λ found. steps.new ≤ steps.old + calls (nexts (W.graph g.now)) list.now) }
 {
     let directed = g.directed();
-    let mut before = Found::new(alloc);
+    let mut before = Found::with_hasher(alloc, seed);
     for x in list {
         if closes(g, directed, &before, x, steps) {
             return Ok(true);

@@ -3,15 +3,15 @@ ghost use Rattle.graph_walk.specs.Graphs.{is_in};
 ghost use Rattle.graph_walk.specs.Found.{with_new};
 
 use elem::{Elem, NoMemory};
+use hash_seed::{Seed, SeededSet};
 use std::alloc::Global;
-use std::collections::HashSet;
 use std::marker::Model;
 
 /// Elements in the order in which they were first put, each once.
 #[derive(Drop)]
 pub struct Found {
     order: Vec<Elem>,
-    seen: HashSet<Elem>,
+    seen: SeededSet<Elem>,
 }
 
 impl Model for Found {
@@ -29,13 +29,13 @@ impl Model for Found {
 }
 
 impl Found {
-    /// No elements.
-    pub fn new(alloc: Global) -> Found
+    /// No elements, which are hashed by a seed.
+    pub fn with_hasher(alloc: Global, seed: Seed) -> Found
         ensures { result ≡ [] }
     {
         Found {
             order: Vec::new(alloc),
-            seen: HashSet::new(alloc),
+            seen: SeededSet::with_hasher(alloc, seed),
         }
     }
 

@@ -4,6 +4,7 @@ ghost use Rattle.std.specs.Prelude.{◌≡◌, ◌<◌};
 use crate::two_lists::{Listed, make_listed};
 use crate::{ClosureFault, WalkFault, breadth_first, closure, depth_post, depth_pre, has_cycle};
 use elem::{Elem, NoMemory, Steps};
+use hash_seed::Seed;
 use std::alloc::Global;
 use std::marker::Brand;
 use std::sync::ledger::{Blank, Ledger};
@@ -50,9 +51,9 @@ fn from_one<L: Ledger>(
 {
     let mut steps = Steps::<L>::new(blank);
     let g = diamond(alloc)?;
-    let breadth = breadth_first(alloc, &g, Elem::Int(1), &mut steps)?;
-    let pre = depth_pre(alloc, &g, Elem::Int(1), &mut steps)?;
-    let post = depth_post(alloc, &g, Elem::Int(1), &mut steps)?;
+    let breadth = breadth_first(alloc, Seed::fixed(), &g, Elem::Int(1), &mut steps)?;
+    let pre = depth_pre(alloc, Seed::fixed(), &g, Elem::Int(1), &mut steps)?;
+    let post = depth_post(alloc, Seed::fixed(), &g, Elem::Int(1), &mut steps)?;
     Ok((breadth, pre, post))
 }
 
@@ -64,8 +65,8 @@ fn along_line<L: Ledger>(alloc: Global, blank: Blank) -> Result<(Vec<Elem>, bool
 {
     let mut steps = Steps::<L>::new(blank);
     let g = line(alloc)?;
-    let found = breadth_first(alloc, &g, Elem::Int(2), &mut steps)?;
-    let refused = breadth_first(alloc, &g, Elem::Int(9), &mut steps);
+    let found = breadth_first(alloc, Seed::fixed(), &g, Elem::Int(2), &mut steps)?;
+    let refused = breadth_first(alloc, Seed::fixed(), &g, Elem::Int(9), &mut steps);
     let is_refused = matches!(&refused, Err(WalkFault::NoNode));
     Ok((found, is_refused))
 }
@@ -81,8 +82,8 @@ fn joined_line<L: Ledger>(
 {
     let mut steps = Steps::<L>::new(blank);
     let g = line(alloc)?;
-    let joined = closure(alloc, &g, 9, &mut steps)?;
-    let refused = closure(alloc, &g, 8, &mut steps);
+    let joined = closure(alloc, Seed::fixed(), &g, 9, &mut steps)?;
+    let refused = closure(alloc, Seed::fixed(), &g, 8, &mut steps);
     let is_refused = matches!(&refused, Err(ClosureFault::Limit));
     match (
         Vec::from_slice(alloc, joined.nodes()),
@@ -100,9 +101,9 @@ fn cycles<L: Ledger>(alloc: Global, blank: Blank) -> Result<(bool, bool, bool), 
     requires some { 0 < blank.parts }
 {
     let mut steps = Steps::<L>::new(blank);
-    let of_diamond = has_cycle(alloc, &diamond(alloc)?, &mut steps)?;
-    let of_line = has_cycle(alloc, &line(alloc)?, &mut steps)?;
-    let of_ring = has_cycle(alloc, &ring(alloc)?, &mut steps)?;
+    let of_diamond = has_cycle(alloc, Seed::fixed(), &diamond(alloc)?, &mut steps)?;
+    let of_line = has_cycle(alloc, Seed::fixed(), &line(alloc)?, &mut steps)?;
+    let of_ring = has_cycle(alloc, Seed::fixed(), &ring(alloc)?, &mut steps)?;
     Ok((of_diamond, of_line, of_ring))
 }
 

@@ -12,17 +12,18 @@ use crate::Walkable;
 use crate::depth_stack::{DepthWalk, Frame};
 use crate::found::Found;
 use elem::{Elem, NoMemory, Steps};
+use hash_seed::Seed;
 use std::alloc::Global;
 use std::sync::ledger::Ledger;
 
-/// A walk that has visited nothing.
-pub fn new_walk(alloc: Global) -> DepthWalk
+/// A walk that has visited nothing, and finds nodes again by a seed.
+pub fn new_walk(alloc: Global, seed: Seed) -> DepthWalk
     ensures entered { result.entered ≡ [] }
     ensures left { result.left.items ≡ [] }
     ensures idle { result.stack.items ≡ [] }
 {
     DepthWalk {
-        entered: Found::new(alloc),
+        entered: Found::with_hasher(alloc, seed),
         left: Vec::new(alloc),
         stack: Vec::new(alloc),
     }

@@ -3,6 +3,10 @@ use std::sync::ledger::Ledger;
 
 /// A graph that can be walked through: Guava's `SuccessorsFunction` with the nodes in their order. Each call that takes
 /// `steps` counts one.
+///
+/// The next nodes of a node are those to which its edges lead, without directions those at the other ends, in the order of
+/// the edges. Each stands once, since no two edges join the same nodes. Walks ask for one after another, so each call
+/// should take O(1).
 pub trait Walkable {
     ghost use Rattle.std.specs.Prelude.{◌≡◌, ◌+◌, true, slice_get};
     ghost use Rattle.elem.specs.declared.elements.Elem.{Elem as Element};

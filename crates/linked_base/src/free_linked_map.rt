@@ -12,9 +12,9 @@ use crate::row_nodes::{
 };
 use crate::thread::{link_before, nth, unlink};
 use elem::{Elem, NoMemory};
+use hash_seed::{Seed, SeededMap};
 use slab::Slab;
 use std::alloc::Global;
-use std::collections::HashMap;
 use std::marker::Model;
 
 /// Rows of a key and a value with distinct keys, a new key last, as `java.util`'s `LinkedHashMap`. Its calls are not
@@ -22,7 +22,7 @@ use std::marker::Model;
 #[derive(Drop)]
 pub struct FreeLinkedMap<V: Copy> {
     nodes: Slab<Node<V>>,
-    index: HashMap<Elem, usize>,
+    index: SeededMap<Elem, usize>,
     ends: Ends,
 }
 
@@ -41,13 +41,20 @@ impl<V: Copy> Model for FreeLinkedMap<V> {
 }
 
 impl<V: Copy> FreeLinkedMap<V> {
-    /// A map with no rows.
+    /// A map with no rows, under the fixed seed.
     pub fn new(alloc: Global) -> FreeLinkedMap<V>
+        ensures { result ≡ [] }
+    {
+        FreeLinkedMap::with_hasher(alloc, Seed::fixed())
+    }
+
+    /// A map with no rows, whose keys are hashed by a seed.
+    pub fn with_hasher(alloc: Global, seed: Seed) -> FreeLinkedMap<V>
         ensures { result ≡ [] }
     {
         FreeLinkedMap {
             nodes: Slab::new(alloc),
-            index: HashMap::new(alloc),
+            index: SeededMap::with_hasher(alloc, seed),
             ends: Ends {
                 first: None,
                 last: None,
@@ -249,12 +256,14 @@ impl<V: Copy> FreeLinkedMap<V> {
         value
     }
 
-    /// Removes every row.
+    /// Removes every row, and gives the memory back.
     pub fn clear(&mut self)
         ensures { self.new ≡ [] }
     {
         self.nodes.clear();
+        self.nodes.shrink_to_fit();
         self.index.clear();
+        self.index.shrink_to_fit();
         self.ends = Ends {
             first: None,
             last: None,

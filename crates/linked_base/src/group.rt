@@ -11,8 +11,8 @@ ghost use Rattle.linked_base.specs.Group.{group_or_none, some_used, no_group, Is
 use crate::links::{Ends, Threaded};
 use crate::thread::{link_before, unlink};
 use elem::Elem;
+use hash_seed::SeededMap;
 use slab::Slab;
-use std::collections::HashMap;
 
 /// The nodes of a key: the ends of their thread, and how many they are.
 #[derive(Clone, Copy, Debug)]
@@ -72,7 +72,7 @@ pub fn leave<W, T: Threaded<W>>(nodes: &mut Slab<T>, group: &mut Group, place: u
 }
 
 /// The group of a key, with nothing in it where there is none.
-pub fn group_of(groups: &HashMap<Elem, Group>, k: &Elem) -> Group
+pub fn group_of(groups: &SeededMap<Elem, Group>, k: &Elem) -> Group
     ensures { result ≡ group_or_none (hash.get same groups.now k.now) }
 {
     match groups.get(k) {
@@ -82,7 +82,7 @@ pub fn group_of(groups: &HashMap<Elem, Group>, k: &Elem) -> Group
 }
 
 /// Gives a key its group, for which there is room.
-pub fn write_group(groups: &mut HashMap<Elem, Group>, k: &Elem, group: Group)
+pub fn write_group(groups: &mut SeededMap<Elem, Group>, k: &Elem, group: Group)
     requires room { 0 < spare groups.old }
     requires used { 0 < group.count }
     ensures { (q : Key) → hash.get same groups.new q ≡ cond (same k.now q) (some_used group) (hash.get same groups.old q) }
@@ -91,7 +91,7 @@ pub fn write_group(groups: &mut HashMap<Elem, Group>, k: &Elem, group: Group)
 }
 
 /// Gives a key that has a group another one, or none where nothing is in it.
-pub fn keep_group(groups: &mut HashMap<Elem, Group>, k: &Elem, group: Group)
+pub fn keep_group(groups: &mut SeededMap<Elem, Group>, k: &Elem, group: Group)
     requires { IsSome (hash.get same groups.old k.now) }
     ensures { (q : Key) → hash.get same groups.new q ≡ cond (same k.now q) (some_used group) (hash.get same groups.old q) }
 {

@@ -6,6 +6,7 @@ ghost use Rattle.elem.specs.Keyed.{value_at, IsPresent, IsAbsent, with_value};
 
 use crate::FreeLinkedMap;
 use elem::{Elem, Keyed, NoMemory, Steps};
+use hash_seed::Seed;
 use std::alloc::Global;
 use std::marker::Model;
 use std::sync::ledger::Ledger;
@@ -30,12 +31,19 @@ impl<V: Copy> Model for LinkedMap<V> {
 }
 
 impl<V: Copy> LinkedMap<V> {
-    /// A map with no rows.
+    /// A map with no rows, under the fixed seed.
     pub fn new(alloc: Global) -> Result<LinkedMap<V>, NoMemory>
         ensures { IfOk result (λ m. m ≡ []) }
     {
+        LinkedMap::with_hasher(alloc, Seed::fixed())
+    }
+
+    /// A map with no rows, whose keys are hashed by a seed.
+    pub fn with_hasher(alloc: Global, seed: Seed) -> Result<LinkedMap<V>, NoMemory>
+        ensures { IfOk result (λ m. m ≡ []) }
+    {
         Ok(LinkedMap {
-            free: FreeLinkedMap::new(alloc),
+            free: FreeLinkedMap::with_hasher(alloc, seed),
         })
     }
 

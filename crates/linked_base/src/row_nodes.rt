@@ -11,8 +11,8 @@ ghost use Rattle.linked_base.specs.LinkedMap.{key_of, row_at};
 
 use crate::links::{Links, Threaded};
 use elem::Elem;
+use hash_seed::SeededMap;
 use slab::Slab;
-use std::collections::HashMap;
 
 /// The thread through all rows.
 pub struct AllRows;
@@ -95,7 +95,7 @@ pub fn write_row<V: Copy>(nodes: &mut Slab<Node<V>>, place: usize, k: &Elem, v: 
 }
 
 /// Gives a key a place, for which there is room.
-pub fn write_place(index: &mut HashMap<Elem, usize>, k: &Elem, place: usize)
+pub fn write_place(index: &mut SeededMap<Elem, usize>, k: &Elem, place: usize)
     requires { 0 < spare index.old }
     ensures updates { (q : Key) → hash.get same index.new q ≡ cond (same k.now q) (Some place) (hash.get same index.old q) }
     ensures len { hash.get same index.old k.now ≡ None → hash_map_len index.new ≡ hash_map_len index.old + 1 }
@@ -104,7 +104,7 @@ pub fn write_place(index: &mut HashMap<Elem, usize>, k: &Elem, place: usize)
 }
 
 /// Takes a key's place out of the index.
-pub fn take_place(index: &mut HashMap<Elem, usize>, k: &Elem) -> Option<usize>
+pub fn take_place(index: &mut SeededMap<Elem, usize>, k: &Elem) -> Option<usize>
     ensures place { result ≡ hash.get same index.old k.now }
     ensures updates { (q : Key) → hash.get same index.new q ≡ cond (same k.now q) None (hash.get same index.old q) }
     ensures len { OnSome result (hash_map_len index.new + 1 ≡ hash_map_len index.old) }
@@ -115,7 +115,7 @@ pub fn take_place(index: &mut HashMap<Elem, usize>, k: &Elem) -> Option<usize>
 }
 
 /// The place of a key, where there is a key.
-pub fn place_of(index: &HashMap<Elem, usize>, k: &Option<Elem>) -> Option<usize>
+pub fn place_of(index: &SeededMap<Elem, usize>, k: &Option<Elem>) -> Option<usize>
     ensures { result ≡ option_and_then (hash.get same index.now) k.now }
 {
     match k {

@@ -4,6 +4,7 @@ ghost use Rattle.mm_base.specs.Replacing.{IsReplaced};
 
 use crate::{FreeFlatPairs, PairId};
 use elem::{Elem, NoMemory, Steps};
+use hash_seed::Seed;
 use std::alloc::Global;
 use std::marker::Model;
 use std::sync::ledger::Ledger;
@@ -27,12 +28,19 @@ impl Model for FlatPairs {
 }
 
 impl FlatPairs {
-    /// No pairs.
+    /// No pairs, under the fixed seed.
     pub fn new(alloc: Global) -> Result<FlatPairs, NoMemory>
         ensures { IfOk result (λ m. m ≡ []) }
     {
+        FlatPairs::with_hasher(alloc, Seed::fixed())
+    }
+
+    /// No pairs, whose keys are hashed by a seed.
+    pub fn with_hasher(alloc: Global, seed: Seed) -> Result<FlatPairs, NoMemory>
+        ensures { IfOk result (λ m. m ≡ []) }
+    {
         Ok(FlatPairs {
-            free: FreeFlatPairs::new(alloc),
+            free: FreeFlatPairs::with_hasher(alloc, seed),
         })
     }
 

@@ -14,11 +14,11 @@ mod replacing;
 use crate::pair_id::{PairId, id_at, place_of};
 use crate::pair_nodes::{PairNode, link_pair, unlink_pair, write_value};
 use elem::{Elem, NoMemory};
+use hash_seed::{Seed, SeededMap};
 use linked_base::group::{Group, group_of, keep_group, write_group};
 use linked_base::thread::Ends;
 use slab::Slab;
 use std::alloc::Global;
-use std::collections::HashMap;
 use std::marker::Model;
 
 /// Pairs in the order of their putting, a key with many values, equal ones too, as Guava's `LinkedListMultimap`. Its
@@ -26,7 +26,7 @@ use std::marker::Model;
 #[derive(Drop)]
 pub struct FreeFlatPairs {
     nodes: Slab<PairNode>,
-    groups: HashMap<Elem, Group>,
+    groups: SeededMap<Elem, Group>,
     all: Ends,
 }
 
@@ -46,13 +46,20 @@ impl Model for FreeFlatPairs {
 }
 
 impl FreeFlatPairs {
-    /// No pairs.
+    /// No pairs, under the fixed seed.
     pub fn new(alloc: Global) -> FreeFlatPairs
+        ensures { result ≡ [] }
+    {
+        FreeFlatPairs::with_hasher(alloc, Seed::fixed())
+    }
+
+    /// No pairs, whose keys are hashed by a seed.
+    pub fn with_hasher(alloc: Global, seed: Seed) -> FreeFlatPairs
         ensures { result ≡ [] }
     {
         FreeFlatPairs {
             nodes: Slab::new(alloc),
-            groups: HashMap::new(alloc),
+            groups: SeededMap::with_hasher(alloc, seed),
             all: Ends {
                 first: None,
                 last: None,
@@ -141,7 +148,9 @@ impl FreeFlatPairs {
         ensures { self.new ≡ [] }
     {
         self.nodes.clear();
+        self.nodes.shrink_to_fit();
         self.groups.clear();
+        self.groups.shrink_to_fit();
         self.all = Ends {
             first: None,
             last: None,

@@ -7,6 +7,7 @@ ghost use Rattle.mm_base.specs.Moving.{key_moved_last};
 use crate::pair_id::place_of;
 use crate::{FreeFlatPairs, PairId};
 use elem::{Elem, NoMemory, Steps};
+use hash_seed::Seed;
 use std::alloc::Global;
 use std::marker::Model;
 use std::sync::ledger::Ledger;
@@ -34,12 +35,19 @@ impl Model for GroupedLists {
 }
 
 impl GroupedLists {
-    /// No pairs.
+    /// No pairs, under the fixed seed.
     pub fn new(alloc: Global) -> Result<GroupedLists, NoMemory>
         ensures { IfOk result (λ m. m ≡ []) }
     {
+        GroupedLists::with_hasher(alloc, Seed::fixed())
+    }
+
+    /// No pairs, whose keys are hashed by a seed.
+    pub fn with_hasher(alloc: Global, seed: Seed) -> Result<GroupedLists, NoMemory>
+        ensures { IfOk result (λ m. m ≡ []) }
+    {
         Ok(GroupedLists {
-            pairs: FreeFlatPairs::new(alloc),
+            pairs: FreeFlatPairs::with_hasher(alloc, seed),
         })
     }
 

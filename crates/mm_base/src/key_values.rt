@@ -6,7 +6,7 @@ ghost use Rattle.mm_base.specs.declared.key_values.KeyValue.{KeyValue as Pair};
 ghost use Rattle.mm_base.specs.KeyValues.{key_value, same_pair};
 
 use elem::Elem;
-use std::collections::HashMap;
+use hash_seed::SeededMap;
 use std::hash::{Hash, Hasher};
 
 /// A key and a value.
@@ -50,7 +50,7 @@ impl Hash for KeyValue {
 }
 
 /// The place of a key and a value, where they have one.
-pub fn pair_place(places: &HashMap<KeyValue, usize>, k: &Elem, v: &Elem) -> Option<usize>
+pub fn pair_place(places: &SeededMap<KeyValue, usize>, k: &Elem, v: &Elem) -> Option<usize>
     ensures { result ≡ hash.get same_pair places.now (key_value k.now v.now) }
 {
     let pair = KeyValue { key: *k, value: *v };
@@ -58,7 +58,7 @@ pub fn pair_place(places: &HashMap<KeyValue, usize>, k: &Elem, v: &Elem) -> Opti
 }
 
 /// Gives a key and a value a place, for which there is room.
-pub fn write_pair_place(places: &mut HashMap<KeyValue, usize>, k: &Elem, v: &Elem, place: usize)
+pub fn write_pair_place(places: &mut SeededMap<KeyValue, usize>, k: &Elem, v: &Elem, place: usize)
     requires { 0 < spare places.old }
     ensures updates { (q : Pair) → hash.get same_pair places.new q ≡ cond (same_pair (key_value k.now v.now) q) (Some place) (hash.get same_pair places.old q) }
     ensures spare { spare places.old ≤ spare places.new + 1 }
@@ -68,7 +68,7 @@ pub fn write_pair_place(places: &mut HashMap<KeyValue, usize>, k: &Elem, v: &Ele
 }
 
 /// Takes the place of a key and a value away.
-pub fn forget_pair_place(places: &mut HashMap<KeyValue, usize>, k: &Elem, v: &Elem)
+pub fn forget_pair_place(places: &mut SeededMap<KeyValue, usize>, k: &Elem, v: &Elem)
     ensures updates { (q : Pair) → hash.get same_pair places.new q ≡ cond (same_pair (key_value k.now v.now) q) None (hash.get same_pair places.old q) }
     ensures spare { spare places.old ≤ spare places.new }
 {

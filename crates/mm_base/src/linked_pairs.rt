@@ -11,9 +11,9 @@ use crate::pair_id::place_of;
 use crate::pair_places::{exchange_pairs, put_pair, remove_found, remove_key_pairs, remove_place};
 use crate::{FreeFlatPairs, PairId};
 use elem::{Elem, NoMemory, Steps};
+use hash_seed::{Seed, SeededMap};
 use linked_base::FreeLinkedMap;
 use std::alloc::Global;
-use std::collections::HashMap;
 use std::marker::Model;
 use std::sync::ledger::Ledger;
 
@@ -24,7 +24,7 @@ mod reading;
 #[derive(Drop)]
 pub struct LinkedPairs {
     pairs: FreeFlatPairs,
-    places: HashMap<KeyValue, usize>,
+    places: SeededMap<KeyValue, usize>,
     keys: FreeLinkedMap<()>,
     alloc: Global,
 }
@@ -45,15 +45,23 @@ impl Model for LinkedPairs {
 }
 
 impl LinkedPairs {
-    /// No pairs.
+    /// No pairs, under the fixed seed.
     pub fn new(alloc: Global) -> Result<LinkedPairs, NoMemory>
         ensures rows { IfOk result (λ m. m.rows ≡ []) }
         ensures keys { IfOk result (λ m. m.keys ≡ []) }
     {
+        LinkedPairs::with_hasher(alloc, Seed::fixed())
+    }
+
+    /// No pairs, which are hashed by a seed, as their keys are.
+    pub fn with_hasher(alloc: Global, seed: Seed) -> Result<LinkedPairs, NoMemory>
+        ensures rows { IfOk result (λ m. m.rows ≡ []) }
+        ensures keys { IfOk result (λ m. m.keys ≡ []) }
+    {
         Ok(LinkedPairs {
-            pairs: FreeFlatPairs::new(alloc),
-            places: HashMap::new(alloc),
-            keys: FreeLinkedMap::new(alloc),
+            pairs: FreeFlatPairs::with_hasher(alloc, seed),
+            places: SeededMap::with_hasher(alloc, seed),
+            keys: FreeLinkedMap::with_hasher(alloc, seed),
             alloc,
         })
     }
@@ -139,7 +147,7 @@ impl LinkedPairs {
         ensures step { steps.new ≡ steps.old + 1 }
     {
         steps.tick();
-        let values = distinct_values(self.alloc, vs)?;
+        let values = distinct_values(self.alloc, *self.places.hasher(), vs)?;
         let added = add_key(&mut self.keys, &k)?;
         if exchange_pairs(&mut self.pairs, &mut self.places, &k, &values).is_err() {
             if added {
@@ -181,6 +189,7 @@ impl LinkedPairs {
     {
         self.pairs.clear();
         self.places.clear();
+        self.places.shrink_to_fit();
         self.keys.clear();
     }
 }

@@ -13,12 +13,12 @@ ghost use Rattle.mm_base.specs.Exchanging.{each_once, IsExchanged};
 use crate::FreeFlatPairs;
 use crate::key_values::{KeyValue, forget_pair_place, pair_place, write_pair_place};
 use elem::{Elem, NoMemory};
-use std::collections::HashMap;
+use hash_seed::SeededMap;
 
 /// Puts a pair that is not there, last.
 pub fn put_pair(
     pairs: &mut FreeFlatPairs,
-    places: &mut HashMap<KeyValue, usize>,
+    places: &mut SeededMap<KeyValue, usize>,
     k: &Elem,
     v: &Elem,
 ) -> Result<(), NoMemory>
@@ -40,7 +40,11 @@ pub fn put_pair(
 }
 
 /// Removes the pair at a place.
-pub fn remove_place(pairs: &mut FreeFlatPairs, places: &mut HashMap<KeyValue, usize>, place: usize)
+pub fn remove_place(
+    pairs: &mut FreeFlatPairs,
+    places: &mut SeededMap<KeyValue, usize>,
+    place: usize,
+)
     requires place { IsLive pairs.old place }
     requires distinct { HasDistinctPairs pairs.old }
     requires found { FindsPairs pairs.old (hash.get same_pair places.old) }
@@ -55,7 +59,7 @@ pub fn remove_place(pairs: &mut FreeFlatPairs, places: &mut HashMap<KeyValue, us
 /// Removes the pair of a key and a value, and tells whether there was one.
 pub fn remove_found(
     pairs: &mut FreeFlatPairs,
-    places: &mut HashMap<KeyValue, usize>,
+    places: &mut SeededMap<KeyValue, usize>,
     k: &Elem,
     v: &Elem,
 ) -> bool
@@ -77,7 +81,7 @@ pub fn remove_found(
 /// Removes the first pairs of a key. The map may lack the pairs behind them.
 pub fn remove_first_pairs(
     pairs: &mut FreeFlatPairs,
-    places: &mut HashMap<KeyValue, usize>,
+    places: &mut SeededMap<KeyValue, usize>,
     k: &Elem,
     count: usize,
 )
@@ -95,7 +99,7 @@ pub fn remove_first_pairs(
 }
 
 /// Gives the pairs of a key their places in the map, which has those of the rows in front.
-pub fn name_pairs(pairs: &FreeFlatPairs, places: &mut HashMap<KeyValue, usize>, k: &Elem)
+pub fn name_pairs(pairs: &FreeFlatPairs, places: &mut SeededMap<KeyValue, usize>, k: &Elem)
     requires { count_of k.now pairs.now ≤ spare places.old }
     ensures { (front added : List Row) → pairs.now ≡ front ++ added → pairs_of_key k.now front ≡ [] → pairs_of_key k.now added ≡ added → HasDistinctPairs pairs.now → FindsPairs front (hash.get same_pair places.old) → FindsPairs pairs.now (hash.get same_pair places.new) }
 {
@@ -114,7 +118,7 @@ pub fn name_pairs(pairs: &FreeFlatPairs, places: &mut HashMap<KeyValue, usize>, 
 /// Removes the pairs of a key, and puts a pair for each value, last.
 pub fn exchange_pairs(
     pairs: &mut FreeFlatPairs,
-    places: &mut HashMap<KeyValue, usize>,
+    places: &mut SeededMap<KeyValue, usize>,
     k: &Elem,
     values: &[Elem],
 ) -> Result<(), NoMemory>
@@ -140,7 +144,7 @@ pub fn exchange_pairs(
 /// Removes the pairs of a key, and tells their number.
 pub fn remove_key_pairs(
     pairs: &mut FreeFlatPairs,
-    places: &mut HashMap<KeyValue, usize>,
+    places: &mut SeededMap<KeyValue, usize>,
     k: &Elem,
 ) -> usize
     requires distinct { HasDistinctPairs pairs.old }

@@ -10,6 +10,7 @@ use crate::line_buffer::LineBuffer;
 use crate::words::Source;
 use crate::{Status, Words};
 use elem::{Failed, Inputs, Sink, Steps};
+use hash_seed::Seed;
 use session::{ExecFault, Session};
 use std::alloc::Global;
 use std::sync::ledger::Ledger;
@@ -34,9 +35,34 @@ impl From<ExecFault> for Status {
     }
 }
 
-/// Runs the script that the words name: `run` names standard input, and `run PATH` a file.
+/// Runs the script that the words name under the fixed seed: `run` names standard input, and `run PATH` a file.
 pub fn run<I: Inputs, S: Sink, L: Ledger>(
     alloc: Global,
+    words: &Words,
+    inputs: &mut I,
+    sink: &mut S,
+    steps: &mut Steps<L>,
+) -> Status
+    ensures usage { (result ≡ Status.Usage) ↔ ((script : Script) → Names words.now script → ⊥) }
+    ensures usage_writes_nothing { result ≡ Status.Usage → Stays (S.taken sink.old) (S.taken sink.new) }
+    ensures open_fault { result ≡ Status.OpenFault →
+        (path : List ℕ) × Names words.now (file path) × (I.failed_path inputs.new ≡ Some path) × Rose (I.open_faults inputs.old) (I.open_faults inputs.new) }
+    ensures open_fault_writes_nothing { result ≡ Status.OpenFault → Stays (S.taken sink.old) (S.taken sink.new) }
+    ensures ran { (script : Script) (bytes : List ℕ) → Names words.now script →
+        bytes_of script (I.standard_bytes inputs.old) (I.file_bytes inputs.old) ≡ Some bytes → result ≢ Status.OpenFault →
+        (came left : List ℕ) × (I.left inputs.new ≡ Some left) × Ran bytes came left (S.taken sink.old) (S.taken sink.new) result }
+    ensures read_fault { result ≡ Status.ReadFault → Rose (I.read_faults inputs.old) (I.read_faults inputs.new) }
+    ensures write_fault { result ≡ Status.WriteFault → Rose (S.faults sink.old) (S.faults sink.new) }
+    ensures too_long { result ≡ Status.TooLong → min (I.given inputs.old + 2 ^ 40 + 1) (2 ^ 64 - 1) ≤ I.given inputs.new }
+{
+    run_seeded(alloc, Seed::fixed(), words, inputs, sink, steps)
+}
+
+/// Runs the script that the words name: `run` names standard input, and `run PATH` a file. What is hashed is hashed by the
+/// seed.
+pub fn run_seeded<I: Inputs, S: Sink, L: Ledger>(
+    alloc: Global,
+    seed: Seed,
     words: &Words,
     inputs: &mut I,
     sink: &mut S,
@@ -60,7 +86,7 @@ pub fn run<I: Inputs, S: Sink, L: Ledger>(
     if open(inputs, source).is_err() {
         return Status::OpenFault;
     }
-    let mut session = Session::empty(alloc);
+    let mut session = Session::with_hasher(alloc, seed);
     match run_script(&mut session, inputs, sink, steps) {
         Ok(()) => Status::Done,
         Err(status) => status,

@@ -16,11 +16,11 @@ mod whole_cells;
 use crate::cell_nodes::{CellNode, write_value};
 use crate::spots::{Spot, place_of};
 use elem::{Elem, NoMemory, Steps};
+use hash_seed::{Seed, SeededMap};
 use linked_base::group::Group;
 use linked_base::thread::Ends;
 use slab::Slab;
 use std::alloc::Global;
-use std::collections::HashMap;
 use std::marker::Model;
 use std::sync::ledger::Ledger;
 
@@ -30,9 +30,9 @@ use std::sync::ledger::Ledger;
 pub struct LinkedCells {
     nodes: Slab<CellNode>,
     all: Ends,
-    rows: HashMap<Elem, Group>,
-    columns: HashMap<Elem, Group>,
-    index: HashMap<Spot, usize>,
+    rows: SeededMap<Elem, Group>,
+    columns: SeededMap<Elem, Group>,
+    index: SeededMap<Spot, usize>,
     loose: bool,
 }
 
@@ -52,21 +52,37 @@ impl Model for LinkedCells {
 }
 
 impl LinkedCells {
-    /// A table with no cells.
+    /// A table with no cells, under the fixed seed.
     pub fn new(alloc: Global) -> Result<LinkedCells, NoMemory>
         ensures cells { IfOk result (λ t. t.cells ≡ []) }
         ensures kind { IfOk result (λ t. t.loose ≡ false) }
     {
-        Ok(LinkedCells::empty(alloc, false))
+        LinkedCells::with_hasher(alloc, Seed::fixed())
+    }
+
+    /// A table with no cells, whose rows and columns are hashed by a seed.
+    pub fn with_hasher(alloc: Global, seed: Seed) -> Result<LinkedCells, NoMemory>
+        ensures cells { IfOk result (λ t. t.cells ≡ []) }
+        ensures kind { IfOk result (λ t. t.loose ≡ false) }
+    {
+        Ok(LinkedCells::empty(alloc, seed, false))
     }
 
     /// A table with no cells, where a new cell goes last of all. So the cells stay in the order of their putting, as
-    /// those of Guava's `ImmutableTable`.
+    /// those of Guava's `ImmutableTable`. The seed is the fixed one.
     pub fn loose(alloc: Global) -> Result<LinkedCells, NoMemory>
         ensures cells { IfOk result (λ t. t.cells ≡ []) }
         ensures kind { IfOk result (λ t. t.loose ≡ true) }
     {
-        Ok(LinkedCells::empty(alloc, true))
+        LinkedCells::loose_with_hasher(alloc, Seed::fixed())
+    }
+
+    /// A table with no cells, where a new cell goes last of all, and rows and columns are hashed by a seed.
+    pub fn loose_with_hasher(alloc: Global, seed: Seed) -> Result<LinkedCells, NoMemory>
+        ensures cells { IfOk result (λ t. t.cells ≡ []) }
+        ensures kind { IfOk result (λ t. t.loose ≡ true) }
+    {
+        Ok(LinkedCells::empty(alloc, seed, true))
     }
 
     /// The number of cells.
@@ -128,15 +144,19 @@ impl LinkedCells {
         self.take(&r, &c)
     }
 
-    /// Removes every cell.
+    /// Removes every cell, and gives the memory back.
     pub fn clear(&mut self)
         ensures cells { self.new.cells ≡ [] }
         ensures kind { self.new.loose ≡ self.old.loose }
     {
         self.nodes.clear();
+        self.nodes.shrink_to_fit();
         self.rows.clear();
+        self.rows.shrink_to_fit();
         self.columns.clear();
+        self.columns.shrink_to_fit();
         self.index.clear();
+        self.index.shrink_to_fit();
         self.all = Ends {
             first: None,
             last: None,
@@ -144,7 +164,7 @@ impl LinkedCells {
     }
 
     /// A table with no cells, loose or not.
-    fn empty(alloc: Global, loose: bool) -> LinkedCells
+    fn empty(alloc: Global, seed: Seed, loose: bool) -> LinkedCells
         ensures cells { result.cells ≡ [] }
         ensures kind { result.loose ≡ loose }
     {
@@ -154,9 +174,9 @@ impl LinkedCells {
                 first: None,
                 last: None,
             },
-            rows: HashMap::new(alloc),
-            columns: HashMap::new(alloc),
-            index: HashMap::new(alloc),
+            rows: SeededMap::with_hasher(alloc, seed),
+            columns: SeededMap::with_hasher(alloc, seed),
+            index: SeededMap::with_hasher(alloc, seed),
             loose,
         }
     }

@@ -65,7 +65,7 @@ pub(crate) fn members_of<L: Ledger>(
     ensures members { IfOk result (λ rows. (x : AnyElem) → spec.is_member rows x ≡ list_any (has_key x) (shown store.now.world (view_in store.now n))) }
     ensures cause { IfErr result (λ why. why ≡ refusals.NoMemory) }
 {
-    let mut members = FreeLinkedMap::new(store.alloc());
+    let mut members = FreeLinkedMap::with_hasher(store.alloc(), store.seed());
     let mut walk = Walk::over(store, n, false);
     while let Some(item) = walk.next(store, steps) {
         let Ok(()) = add_member(&mut members, &key_of(&item)) else {

@@ -15,9 +15,9 @@ use crate::linking::{link_cell, unlink_cell};
 use crate::seeking::{place_behind, place_in_column};
 use crate::spots::{Spot, place_of, take_place, write_place};
 use elem::{Elem, NoMemory};
+use hash_seed::SeededMap;
 use linked_base::group::{Group, group_of, keep_group, write_group};
 use slab::Slab;
-use std::collections::HashMap;
 
 impl LinkedCells {
     /// Puts a new cell in.
@@ -84,9 +84,9 @@ impl LinkedCells {
 /// Makes room for one more cell. What is there stays, also where memory is refused.
 fn make_room(
     nodes: &mut Slab<CellNode>,
-    rows: &mut HashMap<Elem, Group>,
-    columns: &mut HashMap<Elem, Group>,
-    index: &mut HashMap<Spot, usize>,
+    rows: &mut SeededMap<Elem, Group>,
+    columns: &mut SeededMap<Elem, Group>,
+    index: &mut SeededMap<Spot, usize>,
 ) -> Result<(), NoMemory>
     ensures for_node { OnOk result (HasRoomFor nodes.new 1) }
     ensures for_row { OnOk result (0 < spare rows.new) }

@@ -15,10 +15,10 @@ use crate::cell_nodes::CellNode;
 use crate::sides::Side;
 use crate::spots::{Spot, place_of};
 use elem::Elem;
+use hash_seed::SeededMap;
 use linked_base::group::{Group, group_of};
 use linked_base::thread::Links;
 use slab::Slab;
-use std::collections::HashMap;
 
 impl LinkedCells {
     /// The number of cells in a row.
@@ -62,8 +62,8 @@ impl LinkedCells {
 
 /// The group of a row or a column.
 pub(super) fn group_at(
-    rows: &HashMap<Elem, Group>,
-    columns: &HashMap<Elem, Group>,
+    rows: &SeededMap<Elem, Group>,
+    columns: &SeededMap<Elem, Group>,
     side: Side,
     k: &Elem,
 ) -> Group
@@ -77,7 +77,7 @@ pub(super) fn group_at(
 
 /// The place of the cell of a row and a column, or from the other side of a column and a row.
 pub(super) fn place_at(
-    index: &HashMap<Spot, usize>,
+    index: &SeededMap<Spot, usize>,
     side: Side,
     k: &Elem,
     x: &Elem,
