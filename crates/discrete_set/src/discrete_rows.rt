@@ -25,8 +25,9 @@ const MOST: u128 = 2147483647;
 /// Whole numbers of 64 bits in rising order, which never change: Guava's `ContiguousSet`, with gaps.
 ///
 /// It keeps runs of consecutive members, so a range takes the same room whatever it holds. `contains` and `item` are
-/// binary searches over the runs; `within` and `intersection` take time in proportion to them. Each call that takes
-/// `steps` counts one.
+/// binary searches over the runs; `of`, `within` and `intersection` take time in proportion to the ranges and runs; the
+/// other calls take O(1). Each call that takes `steps` counts one. What makes a set copies, so neither set changes the
+/// other, and `NoMemory` is its only error.
 #[derive(Drop)]
 pub struct DiscreteRows {
     runs: Vec<Run>,
@@ -70,7 +71,8 @@ impl DiscreteRows {
         self.runs.len()
     }
 
-    /// A run as a closed range.
+    /// Run number `i`, counted from 0, as the closed range from its least member to its greatest, or none where there is no
+    /// such run.
     pub fn run_at<L: Ledger>(&self, i: usize, steps: &mut Steps<L>) -> Option<Span>
         ensures value { result ≡ option_map closed (slice_get self.now i) }
         ensures step { steps.new ≡ steps.old + 1 }
@@ -82,7 +84,8 @@ impl DiscreteRows {
         }
     }
 
-    /// A run as a canonical range over the domain of longs, as Guava's `Range.canonical` gives it.
+    /// Run number `i` as a canonical range over the domain of longs, as Guava's `Range.canonical` gives it: from its least
+    /// member to the number just above its greatest, which is left out, or without an upper end where there is no such number.
     pub fn canonical_at<L: Ledger>(&self, i: usize, steps: &mut Steps<L>) -> Option<Span>
         ensures value { result ≡ option_map canonical (slice_get self.now i) }
         ensures step { steps.new ≡ steps.old + 1 }
@@ -112,7 +115,7 @@ impl DiscreteRows {
         members_of(&self.runs).min(MOST) as i32
     }
 
-    /// The least member.
+    /// The least member, or none where there is no member.
     pub fn first<L: Ledger>(&self, steps: &mut Steps<L>) -> Option<i64>
         ensures value { result ≡ option_map number (item self.now 0) }
         ensures least { IfSome result (λ v. IsItem self.now 0 (rank v)) }
@@ -123,7 +126,7 @@ impl DiscreteRows {
         numbered(first_rank(&self.runs))
     }
 
-    /// The greatest member.
+    /// The greatest member, or none where there is no member.
     pub fn last<L: Ledger>(&self, steps: &mut Steps<L>) -> Option<i64>
         ensures value { result ≡ option_map number (item self.now (count_below self.now (2 ^ 64) - 1)) }
         ensures greatest { IfSome result (λ v. IsItem self.now (count_below self.now (2 ^ 64) - 1) (rank v)) }
@@ -134,7 +137,7 @@ impl DiscreteRows {
         numbered(last_rank(&self.runs))
     }
 
-    /// The member below which exactly `i` members lie.
+    /// The member below which exactly `i` members lie, or none where there are no more than `i`.
     pub fn item<L: Ledger>(&self, i: u64, steps: &mut Steps<L>) -> Option<i64>
         ensures value { result ≡ option_map number (item self.now i) }
         ensures member { IfSome result (λ v. IsItem self.now i (rank v)) }

@@ -10,3 +10,5 @@ pub mod ShownLemmas
 pub mod SpotLemmas
 pub mod Rising
 pub mod Merging
+pub mod Merged
+pub mod Nearing

@@ -1,16 +1,11 @@
 -- Two walks through the edges at two nodes, merged in the order of the edges.
-use Rattle.std.proofs.Common.{◌≡◌, ◌<◌, ◌≤◌, ◌+◌, ℕ, suc, Bool, true, false, cond, not, List, [], ◌∷◌, ◌++◌, length, Option, Some, None, refl, sym, ap, ◌∙◌, subst, arith, slice_get, nat_lt, add-one, append_assoc, length-append}
-use Rattle.std.specs.Prelude.{MatchBool, ◌||◌, ◌&&◌}
+use Rattle.std.proofs.Common.{◌≡◌, ◌<◌, ◌≤◌, ◌+◌, ℕ, suc, Bool, true, false, cond, List, [], ◌∷◌, ◌++◌, length, Option, Some, None, refl, sym, ap, ◌∙◌, subst, arith, slice_get, nat_lt, add-one, append_assoc, length-append}
+use Rattle.std.specs.Prelude.{MatchBool, ◌||◌}
 use Rattle.std.specs.List.{filter}
 use Rattle.std.proofs.lemmas.List.Elements.{filter-append}
 use Rattle.elem.specs.declared.elements.Elem.{Elem}
 use Rattle.graph_base.specs.Edges.{Edge, is_at, incident}
 use Rattle.graph_base.proofs.Cuts.{nothing}
-use Rattle.graph_base.proofs.EndsLemmas.{and_parts}
-use Rattle.elem.specs.Elements.{same}
-use Rattle.network_base.specs.declared.net_steps.NetStep.TheVariants.{AdjacentEdges}
-use Rattle.network_base.specs.Networks.{ends_of}
-use Rattle.network_base.specs.Shown.{passes, shares_end}
 use Rattle.network_base.specs.Beside.{IsEarlier}
 use Rattle.network_base.proofs.Passing.{filter_within, some_before}
 use Rattle.network_base.proofs.Rising.{test_true, test_false}
@@ -40,7 +35,7 @@ head_cut {X} test (y ∷ xs) x e = by_case (test y) refl e (head_cut test xs x)
         let c = rest f in
         (y ∷ c.0, c.1, ap (λ l. y ∷ l) c.2, ap (λ b. cond b (y ∷ filter test c.0) (filter test c.0)) t ∙ c.3, c.4)
 
-behind : {X : Type 0} (us vs : List X) (k : ℕ) → slice_get (us ++ vs) (length us + k) ≡ slice_get vs k
+pub behind : {X : Type 0} (us vs : List X) (k : ℕ) → slice_get (us ++ vs) (length us + k) ≡ slice_get vs k
 behind [] vs k = ap (slice_get vs) (omega arith)
 behind (u ∷ us) vs k = let more : suc (length us) + k ≡ suc (length us + k) = omega arith in ap (slice_get (u ∷ (us ++ vs))) more ∙ behind us vs k
 
@@ -212,22 +207,3 @@ module _ (p q : Elem) where
 
           pub merge_passed : test e ≡ false → IsMerging (taken + 1) next_first next_second left
           merge_passed t = onward left (split false t)
-
--- nothing is beside an edge that is not there
-pub none_beside : (directed : Bool) (edges all : List Edge) (x : Elem) → ends_of x all ≡ None → filter (passes directed all (AdjacentEdges x)) edges ≡ []
-none_beside directed [] all x e = refl
-none_beside directed (y ∷ edges) all x e = ap (λ o. cond (shares_end o y && not (same x y.2)) (y ∷ filter (passes directed all (AdjacentEdges x)) edges) (filter (passes directed all (AdjacentEdges x)) edges)) e ∙ none_beside directed edges all x e
-
--- an edge beside another is at one of its ends
-module _ (directed : Bool) (edges : List Edge) (x p q : Elem) (e : ends_of x edges ≡ Some (p, q)) (y : Edge) where
-  beside_is : passes directed edges (AdjacentEdges x) y ≡ (either p q y && not (same x y.2))
-  beside_is = ap (λ o. shares_end o y && not (same x y.2)) e
-
-  pub beside_narrow : passes directed edges (AdjacentEdges x) y ≡ true → either p q y ≡ true
-  beside_narrow t = (and_parts (either p q y) (not (same x y.2)) (sym beside_is ∙ t)).0
-
-  pub beside_passes : either p q y ≡ true → same x y.2 ≡ false → passes directed edges (AdjacentEdges x) y ≡ true
-  beside_passes t f = beside_is ∙ (λ i. t i && not (f i))
-
-  pub beside_fails : either p q y ≡ true → same x y.2 ≡ true → passes directed edges (AdjacentEdges x) y ≡ false
-  beside_fails t f = beside_is ∙ (λ i. t i && not (f i))

@@ -1,5 +1,5 @@
 -- Where a walk after an edge of a set begins.
-use Rattle.std.proofs.Common.{◌≡◌, ◌+◌, ℕ, Bool, true, false, List, Option, Some, None, sym, ap, ◌∙◌, subst, arith, slice_get}
+use Rattle.std.proofs.Common.{◌≡◌, ◌+◌, ℕ, Bool, true, false, List, drop, Option, Some, None, sym, ap, ◌∙◌, subst, arith, slice_get}
 use Rattle.std.specs.List.{filter, IsDistinct}
 use Rattle.elem.specs.declared.elements.Elem.{Elem}
 use Rattle.elem.specs.Elements.{same}
@@ -28,12 +28,15 @@ module _ (directed : Bool) (edges : List Edge) (step : NetStep) (x : Elem) where
           let k = numbered x edges p e in
           subst (λ a. (m : ℕ) × (slice_get (around a edges) m ≡ Some (p.0, p.1, x))) (sym c) (passing_around directed edges step (p.0, p.1, x) k.0 k.1 t)
 
+      pub first_here : slice_get (filter (passes directed edges step) (drop (place_here.0 + 1) (around o edges))) 0 ≡ after_here
+      first_here = start_after (passes directed edges step) o edges place_here.0 (p.0, p.1, x) distinct place_here.1 t ∙ ap (λ a. edge_after x (filter (passes directed edges step) (around a edges))) c ∙ ap (edge_after x) (all_around directed edges step)
+
       pub start_here : (at : Option Edge) → at ≡ slice_get (around o edges) (place_here.0 + 1) → IsOnward (passes directed edges step) (around o edges) after_here 0 at
       start_here at h = record {
         number = place_here.0 + 1;
         far = omega arith;
         walking = record {
           here = h;
-          rest = start_after (passes directed edges step) o edges place_here.0 (p.0, p.1, x) distinct place_here.1 t ∙ ap (λ a. edge_after x (filter (passes directed edges step) (around a edges))) c ∙ ap (edge_after x) (all_around directed edges step);
+          rest = first_here;
         };
       }

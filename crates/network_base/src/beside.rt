@@ -1,10 +1,11 @@
 //! The edges beside an edge, as a merge of those at its two ends.
-ghost use Rattle.std.specs.Prelude.{◌≡◌, ℕ, ◌+◌, slice_get, Some, IfSome, MatchBool, true};
+ghost use Rattle.std.specs.Prelude.{◌≡◌, ℕ, ◌+◌, drop, slice_get, Some, IfSome, MatchBool, true};
 ghost use Rattle.std.specs.List.{filter};
 ghost use Rattle.graph_base.specs.Edges.{Edge, incident, is_at};
 ghost use Rattle.network_base.specs.declared.net_steps.NetStep.TheVariants.{AdjacentEdges};
+ghost use Rattle.network_base.specs.Networks.{ends_of};
 ghost use Rattle.network_base.specs.Shown.{passes};
-ghost use Rattle.network_base.specs.Beside.{IsEarlier};
+ghost use Rattle.network_base.specs.Beside.{IsEarlier, IsNextAt, is_beside};
 
 use crate::named_edges::NamedEdges;
 use crate::net_steps::{NetStep, centre};
@@ -34,7 +35,7 @@ fn earlier(
 }
 
 /// The edge after another at a node, or `at` where the other is not at the node.
-fn advance(
+pub fn advance(
     edges: &NamedEdges,
     end: &Elem,
     e: &(Elem, Elem, Elem),
@@ -50,31 +51,51 @@ fn advance(
     }
 }
 
+/// Edge number `i` of those beside an edge, from an edge on, where numbers tell. The walks through the edges at both ends
+/// stand at their first from there on.
+pub fn nth_merged(
+    edges: &NamedEdges,
+    x: &Elem,
+    ends: &(Elem, Elem),
+    first: &Option<(Elem, Elem, Elem)>,
+    second: &Option<(Elem, Elem, Elem)>,
+    i: usize,
+) -> Option<Option<(Elem, Elem, Elem)>>
+    requires ends { ends_of x.now edges.now ≡ Some ends.now }
+    requires begun { (k : ℕ) × (IsNextAt edges.now k ends.now.0 first.now) × (IsNextAt edges.now k ends.now.1 second.now) }
+    ensures { (k : ℕ) → IsNextAt edges.now k ends.now.0 first.now → IsNextAt edges.now k ends.now.1 second.now → IfSome result (λ found. found ≡ slice_get (filter (is_beside edges.now x.now) (drop k edges.now)) i) }
+{
+    let mut left = i;
+    let mut at_first = *first;
+    let mut at_second = *second;
+    for _step in 0..edges.len() {
+        let found = earlier(edges, &at_first, &at_second)?;
+        let Some(e) = found else {
+            return Some(None);
+        };
+        if !same(x, &e.2) {
+            if left == 0 {
+                return Some(Some(e));
+            }
+            left -= 1;
+        }
+        at_first = advance(edges, &ends.0, &e, &at_first);
+        at_second = advance(edges, &ends.1, &e, &at_second);
+    }
+    Some(None)
+}
+
 /// Edge number `i` of those beside an edge. Where numbers have run out, all edges are looked through.
 fn nth_beside(edges: &NamedEdges, directed: bool, x: &Elem, i: usize) -> Option<(Elem, Elem, Elem)>
     ensures { result ≡ slice_get (filter (passes directed edges.now (AdjacentEdges x.now)) edges.now) i }
 {
-    let (p, q) = edges.ends(x)?;
-    let mut left = i;
-    let mut first = edges.first_at(&p);
-    let mut second = edges.first_at(&q);
-    for _step in 0..edges.len() {
-        let Some(found) = earlier(edges, &first, &second) else {
-            return nth_passing(edges, directed, &NetStep::AdjacentEdges(*x), &None, i);
-        };
-        let Some(e) = found else {
-            return None;
-        };
-        if !same(x, &e.2) {
-            if left == 0 {
-                return Some(e);
-            }
-            left -= 1;
-        }
-        first = advance(edges, &p, &e, &first);
-        second = advance(edges, &q, &e, &second);
+    let ends = edges.ends(x)?;
+    let first = edges.first_at(&ends.0);
+    let second = edges.first_at(&ends.1);
+    match nth_merged(edges, x, &ends, &first, &second, i) {
+        Some(found) => found,
+        None => nth_passing(edges, directed, &NetStep::AdjacentEdges(*x), &None, i),
     }
-    None
 }
 
 /// Edge number `i` of those that show an item in a set.

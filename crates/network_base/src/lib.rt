@@ -2,6 +2,7 @@
 //! of its own, so any number of edges join the same nodes.
 #![tactic(auto)]
 
+mod after_beside;
 mod beside;
 mod faults;
 mod named_edges;

@@ -10,6 +10,7 @@ ghost use Rattle.network_base.specs.Networks.{names, ends_of, without_edge};
 
 use elem::{Elem, NoMemory, same};
 use graph_base::halves::{add_halves, drop_halves};
+use hash_seed::Seed;
 use linked_base::FreeLinkedMap;
 use mm_base::{FreeFlatPairs, PairId};
 use std::alloc::Global;
@@ -109,13 +110,13 @@ fn edge_of_half(
 }
 
 impl NamedEdges {
-    /// No edges.
-    pub fn new(alloc: Global) -> NamedEdges
+    /// No edges, which are hashed by a seed, as their ends are.
+    pub fn with_hasher(alloc: Global, seed: Seed) -> NamedEdges
         ensures { result ≡ [] }
     {
         NamedEdges {
-            rows: FreeLinkedMap::new(alloc),
-            halves: FreeFlatPairs::new(alloc),
+            rows: FreeLinkedMap::with_hasher(alloc, seed),
+            halves: FreeFlatPairs::with_hasher(alloc, seed),
             next: Some(0),
         }
     }

@@ -16,13 +16,14 @@ use crate::sides::way_of;
 use crate::{NetFault, Side};
 use elem::{Elem, NoMemory, Steps};
 use graph_base::degrees::{Degrees, degree_by, put_node};
+use hash_seed::Seed;
 use linked_base::FreeLinkedMap;
 use std::alloc::Global;
 use std::marker::Model;
 use std::sync::ledger::Ledger;
 
 /// A network, as Guava's `MutableNetwork` with parallel edges in insertion order: nodes and edges stand in the order of
-/// their coming. Each call that takes `steps` counts one.
+/// their coming. Each call that takes `steps` counts one, and takes O(1) where it says nothing else.
 #[derive(Drop)]
 pub struct NetworkRows {
     nodes: FreeLinkedMap<Degrees>,
@@ -45,13 +46,25 @@ impl Model for NetworkRows {
 }
 
 impl NetworkRows {
-    /// A network with no nodes.
+    /// A network with no nodes, under the fixed seed.
     pub fn new(alloc: Global, directed: bool, loops: bool) -> Result<NetworkRows, NoMemory>
         ensures { IfOk result (λ g. g ≡ empty directed loops) }
     {
+        NetworkRows::with_hasher(alloc, Seed::fixed(), directed, loops)
+    }
+
+    /// A network with no nodes, which are hashed by a seed, as its edges are.
+    pub fn with_hasher(
+        alloc: Global,
+        seed: Seed,
+        directed: bool,
+        loops: bool,
+    ) -> Result<NetworkRows, NoMemory>
+        ensures { IfOk result (λ g. g ≡ empty directed loops) }
+    {
         Ok(NetworkRows {
-            nodes: FreeLinkedMap::new(alloc),
-            edges: NamedEdges::new(alloc),
+            nodes: FreeLinkedMap::with_hasher(alloc, seed),
+            edges: NamedEdges::with_hasher(alloc, seed),
             directed,
             loops,
         })
@@ -88,7 +101,7 @@ impl NetworkRows {
         self.nodes.probe(a).is_some()
     }
 
-    /// The ends of an edge, in the order in which it was put.
+    /// The ends of an edge, in the order in which it was put, or none where there is no such edge: Guava's `incidentNodes`.
     pub fn ends<L: Ledger>(&self, x: Elem, steps: &mut Steps<L>) -> Option<(Elem, Elem)>
         ensures answer { result ≡ ends_of x self.now.edges }
         ensures step { steps.new ≡ steps.old + 1 }
@@ -97,8 +110,8 @@ impl NetworkRows {
         self.edges.ends(&x)
     }
 
-    /// How many edges a node has on a side. A loop counts twice in `Side::At`. Where there are no directions all three
-    /// are equal.
+    /// How many edges a node has on a side, or none where there is no such node. A loop counts twice in `Side::At`. Where
+    /// there are no directions all three are equal.
     pub fn degree<L: Ledger>(&self, a: Elem, side: Side, steps: &mut Steps<L>) -> Option<i32>
         ensures answer { result ≡ cond (contains a self.now.nodes) (Some (pos (degree_of self.now.directed (way_of side) a self.now.edges))) None }
         ensures step { steps.new ≡ steps.old + 1 }
@@ -113,7 +126,7 @@ impl NetworkRows {
         }
     }
 
-    /// Puts a node, last, where it is new, and tells whether it is.
+    /// Puts a node, last, where it is new, and tells whether it is. After `NoMemory` nothing has changed.
     pub fn add_node<L: Ledger>(&mut self, a: Elem, steps: &mut Steps<L>) -> Result<bool, NoMemory>
         requires { size self.old ≤ 1073741820 }
         ensures answer { IfOk result (λ new. new ≡ not (contains a self.old.nodes)) }
@@ -127,7 +140,10 @@ impl NetworkRows {
     }
 
     /// Puts an edge from one node to another, and tells whether it is new. The edge and the nodes that are new go last.
-    /// An edge that joins the nodes already stays as it is.
+    /// An edge that joins the nodes already stays as it is, and without directions either way round is the same.
+    ///
+    /// `NetFault::Taken` comes exactly where the edge has other ends, and `NetFault::Loop` exactly where it is new, its ends
+    /// are one node, and loops are not allowed. After an error nothing has changed.
     pub fn add_edge<L: Ledger>(
         &mut self,
         a: Elem,
@@ -160,7 +176,7 @@ impl NetworkRows {
         Ok(true)
     }
 
-    /// Removes a node and the edges at it, and tells whether it was there.
+    /// Removes a node and the edges at it, in time in proportion to their number, and tells whether it was there.
     pub fn remove_node<L: Ledger>(&mut self, a: Elem, steps: &mut Steps<L>) -> bool
         ensures answer { result ≡ contains a self.old.nodes }
         ensures network { self.new ≡ record self.old { nodes = without_node a self.old.nodes; edges = without_edges_at a self.old.edges } }

@@ -127,7 +127,7 @@ fn shares_end(edges: &NamedEdges, x: &Elem, e: &(Elem, Elem, Elem)) -> bool
 }
 
 /// Whether an edge shows an item in a set.
-fn passes(edges: &NamedEdges, directed: bool, step: &NetStep, e: &(Elem, Elem, Elem)) -> bool
+pub fn passes(edges: &NamedEdges, directed: bool, step: &NetStep, e: &(Elem, Elem, Elem)) -> bool
     ensures { result ≡ passes directed edges.now step.now e.now }
 {
     match step {

@@ -5,16 +5,19 @@ ghost use Rattle.network_base.specs.declared.net_steps.NetGone.{NetGone as Gone}
 ghost use Rattle.network_base.specs.Shown.{is_there, shown, spots, row_after};
 
 use super::NetworkRows;
+use crate::after_beside::next_edge;
 use crate::beside::nth_edge;
 use crate::net_steps::{edge_spot, gives_nodes, item, node_spot};
-use crate::walking::next_passing;
 use crate::{NetGone, NetItem, NetStep};
 use elem::{Elem, Steps};
 use std::sync::ledger::Ledger;
 
 impl NetworkRows {
-    /// Item number `i` of a set, counted from 0. A set at a node is read from the edges at it, in time in proportion to
-    /// their number.
+    /// Item number `i` of a set, counted from 0, or none where the set has no item `i`.
+    ///
+    /// A set at a node is read along the edges at the node, and one beside an edge along those at its two ends, in time in
+    /// proportion to their number; the other sets are read along all nodes or edges. `NetGone` comes exactly where a node or
+    /// an edge that names the set is not there.
     pub fn shown_at<L: Ledger>(
         &self,
         step: &NetStep,
@@ -31,7 +34,8 @@ impl NetworkRows {
         Ok(self.nth_shown(step, i))
     }
 
-    /// The first item of a set, and the node or the edge that shows it.
+    /// The first item of a set, and the node or the edge that shows it: where a walk along the set begins. It costs what
+    /// `shown_at` costs for its first item. `NetGone` comes as there.
     pub fn first_shown<L: Ledger>(
         &self,
         step: &NetStep,
@@ -47,8 +51,12 @@ impl NetworkRows {
         Ok(self.first_spot(step))
     }
 
-    /// The item after the one that a node or an edge shows, and what shows it. A walk along a set, from `first_shown` on,
-    /// goes once along the edges at its node, or for a set beside an edge or of all edges once along all.
+    /// The item after the one that a node or an edge shows, and what shows it, or none where that shows no item of the set.
+    /// `NetGone` comes as in `shown_at`.
+    ///
+    /// A walk along a set, from `first_shown` on, goes once along the edges at its node, or for a set of all edges once along
+    /// all. Beside an edge a call goes along those at its two ends or along all edges behind the item that was shown,
+    /// whichever is shorter, so a walk takes O(edges) there, too.
     pub fn next_shown<L: Ledger>(
         &self,
         step: &NetStep,
@@ -130,7 +138,7 @@ impl NetworkRows {
             let a = self.nodes.after(*spot)?;
             return Some(node_spot(&a));
         }
-        let e = next_passing(&self.edges, self.directed, step, spot)?;
+        let e = next_edge(&self.edges, self.directed, step, spot)?;
         Some(edge_spot(step, &e))
     }
 }

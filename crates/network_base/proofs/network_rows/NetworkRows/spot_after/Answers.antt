@@ -26,9 +26,9 @@ returns-then-gives_nodes c =
 pub returns-in_err-e : goal.returns-in_err-e
 returns-in_err-e c =
     let m = c.self.inside in
-    c.from_residual-in_err-e.ensures ∙ sym (next_edge_spot m.nodes m.edges m.directed m.loops c.args.step.now (sym c.gives_nodes.ensures ∙ c.if-gives_nodes.false) c.args.spot.now None (sym c.next_passing.ensures ∙ c.in_err-e.was)) ∙ ap (λ x. row_after c.args.spot.now (spots c.args.step.now x)) c.self.view_is
+    c.from_residual-in_err-e.ensures ∙ sym (next_edge_spot m.nodes m.edges m.directed m.loops c.args.step.now (sym c.gives_nodes.ensures ∙ c.if-gives_nodes.false) c.args.spot.now None (sym c.next_edge.ensures ∙ c.in_err-e.was)) ∙ ap (λ x. row_after c.args.spot.now (spots c.args.step.now x)) c.self.view_is
 
 pub returns : goal.returns
 returns c =
     let m = c.self.inside in
-    ap Some c.edge_spot.ensures ∙ sym (next_edge_spot m.nodes m.edges m.directed m.loops c.args.step.now (sym c.gives_nodes.ensures ∙ c.if-gives_nodes.false) c.args.spot.now (Some c.in_ok-e.e) (sym c.next_passing.ensures ∙ c.in_ok-e.was)) ∙ ap (λ x. row_after c.args.spot.now (spots c.args.step.now x)) c.self.view_is
+    ap Some c.edge_spot.ensures ∙ sym (next_edge_spot m.nodes m.edges m.directed m.loops c.args.step.now (sym c.gives_nodes.ensures ∙ c.if-gives_nodes.false) c.args.spot.now (Some c.in_ok-e.e) (sym c.next_edge.ensures ∙ c.in_ok-e.was)) ∙ ap (λ x. row_after c.args.spot.now (spots c.args.step.now x)) c.self.view_is
