@@ -32,7 +32,7 @@ pub use line_laws::{found_in_lane, line_hidden, line_joined, line_over, whole_li
 pub use look_laws::{groups_there, shows_both, shows_first, shows_hidden, shows_over, shows_row};
 pub use look_ups::{decided, found_over, look_below};
 pub use narrowing::{flipped, narrow, source_of};
-pub use passing::pass_down;
+pub use passing::{leaves_lane, pass_down};
 pub use places::{Found, Place, RowSpot, same_spot, shifted, unshifted};
 pub use row_laws::{
     candidates_of_rows, found_of_rows, lift_undone, lifted_is_shown, shown_of_rows,

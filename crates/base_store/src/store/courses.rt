@@ -4,17 +4,20 @@ ghost use Rattle.base_store.specs.Courses.{IsCourse};
 ghost use Rattle.base_store.specs.Stored.{view_in};
 ghost use Rattle.machine.specs.Views.{shape_at};
 ghost use Rattle.view_laws.specs.Lanes as lanes;
+ghost use Rattle.view_laws.specs.GroupOrders.{group_order_at};
 ghost use Rattle.view_laws.specs.LanesDown.{lane_down};
 ghost use Rattle.view_laws.specs.Serving.{of_part};
+ghost use Rattle.view_laws.specs.ShapeNarrowing.{narrow_on};
 ghost use Rattle.view_laws.specs.declared.lanes.Pick.TheVariants.{Each};
 ghost use Rattle.view_steps.specs.KnownLanes as views;
+ghost use Rattle.view_steps.specs.KnownViews.{is_known};
 ghost use Rattle.vocabulary.specs.Shapes.{is_unique};
 
 use super::Store;
 use crate::{AnyRef, BaseId, Node};
 use elem::Elem;
-use view_laws::{Lane, PartAsk, all, flipped, order_on, pass_down, source_of};
-use vocabulary::Side;
+use view_laws::{Lane, PartAsk, all, flipped, leaves_lane, order_on, pass_down, source_of};
+use vocabulary::{Side, Step};
 
 /// A walk of a view, as one of the base under it: along a lane there, from the front or from the back.
 #[derive(Clone, Copy)]
@@ -70,6 +73,25 @@ impl Store {
         }
     }
 
+    /// Makes of a lane of a known step over a view the lane of that view, and tells whether there is one. Most steps leave
+    /// the lane as it is.
+    fn passes_down(&self, parent: AnyRef, step: &Step, lane: &mut Lane) -> bool
+        requires parent { parent < length self.now.nodes }
+        requires known { is_known step.now ≡ true }
+        requires each { lane.old.pick ≡ Each }
+        ensures some { result ≡ true → narrow_on (shape_at self.now.world (view_in self.now parent)) (group_order_at self.now.world (view_in self.now parent) step.now) step.now lane.old ≡ Some lane.new }
+        ensures none { result ≡ false → narrow_on (shape_at self.now.world (view_in self.now parent)) (group_order_at self.now.world (view_in self.now parent) step.now) step.now lane.old ≡ None }
+        ensures each { result ≡ true → lane.new.pick ≡ Each }
+    {
+        if leaves_lane(step) {
+            return true;
+        }
+        let kind = self.kind(self.base_of(parent));
+        let below = self.facts(parent);
+        let order = order_on(kind, below.for_map, below.shape, step);
+        pass_down(below.shape, order, step, lane)
+    }
+
     /// Makes of a lane of a view, and of the direction of a walk along it, those of its base, and tells whether each step
     /// passes the lane down.
     fn comes_down(&self, n: AnyRef, lane: &mut Lane, back: &mut bool) -> bool
@@ -81,10 +103,8 @@ impl Store {
         match self.node(n) {
             Node::Base(_) => true,
             Node::Step { step, parent } => {
-                let kind = self.kind(self.base_of(n));
-                let below = self.facts(parent);
-                let order = order_on(kind, below.for_map, below.shape, &step);
-                if !pass_down(below.shape, order, &step, lane) {
+                let _base = self.base_of(n);
+                if !self.passes_down(parent, &step, lane) {
                     return false;
                 }
                 *back = flipped(&step, *back);
