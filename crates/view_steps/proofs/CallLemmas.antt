@@ -1,5 +1,5 @@
 -- Known calls on known views: what may refuse them, and what they leave of the base.
-use Rattle.std.proofs.Common.{◌≡◌, ℕ, true, false, cond, ◌&&◌, List, [], ◌∷◌, refl, ap, ◌∙◌}
+use Rattle.std.proofs.Common.{◌≡◌, true, false, cond, ◌&&◌, List, [], ◌∷◌, refl, ap, ◌∙◌}
 use Rattle.std.specs.Prelude.{Option, Some, None, Err, option_map}
 use Rattle.vocabulary.specs.declared.answers.Answer.{Answer}
 use Rattle.vocabulary.specs.declared.calls.Ask.TheVariants.{Clear}
@@ -13,8 +13,6 @@ use Rattle.vocabulary.specs.declared.items.Item.{Item}
 use Rattle.vocabulary.specs.declared.kinds.Kind.{Kind}
 use Rattle.vocabulary.specs.declared.refusals.Refusal.{Refusal}
 use Rattle.vocabulary.specs.declared.refusals.Refusal.TheVariants.{IllegalArgument}
-use Rattle.vocabulary.specs.declared.shapes.Shape.{Shape}
-use Rattle.vocabulary.specs.declared.shapes.Shape.TheVariants as shape
 use Rattle.vocabulary.specs.Known.{form_of_call, is_known_call, is_known_kind, is_known_other}
 use Rattle.vocabulary.specs.Kinds.{shape_of_kind}
 use Rattle.vocabulary.specs.Needs.{needs_of, needs_with}
@@ -24,7 +22,7 @@ use Rattle.machine.specs.Answers.{answer_of, answer_with}
 use Rattle.machine.specs.Bases.{Base, World}
 use Rattle.machine.specs.CallEdits.{change_by, change_of, change_with, edit_of, edit_with, reach_of, reaches_with, writes_of}
 use Rattle.machine.specs.CallRefusals.{call_refusal, flag_refusal, items_lifted, items_lifted_with, lift_refusal, reach_refusal, reaches_refusal, refusal_with, test_refusal}
-use Rattle.machine.specs.Edits.{Coming, Edit, adding, an_edit, removing, takes_all, takes_change, with_coming, without_rows, world_after}
+use Rattle.machine.specs.Edits.{Coming, Edit, adding, an_edit, takes_all, takes_change, with_coming, without_rows, world_after}
 use Rattle.machine.specs.Placing.{takes_row}
 use Rattle.machine.specs.Reaching.{cleared}
 use Rattle.machine.specs.Reading.{first_refusal, reading_refusal}
@@ -32,7 +30,8 @@ use Rattle.machine.specs.Views.{View, base_under, flags_at, root, shape_at, show
 use Rattle.view_steps.specs.KnownViews.{edited_at, is_known_view, number_under}
 use Rattle.view_steps.proofs.EditedRows.{without_none}
 use Rattle.view_steps.proofs.KindLemmas.{takes_each}
-use Rattle.view_steps.proofs.KnownLemmas.{is_known_shape, is_read, known_base, known_shape}
+use Rattle.view_steps.proofs.KnownLemmas.{is_read, known_base, known_shape}
+use Rattle.view_steps.proofs.KnownShapes.{no_ranges}
 use Rattle.view_steps.proofs.ListLemmas.{and-true}
 
 -- ---- refusals
@@ -40,11 +39,6 @@ use Rattle.view_steps.proofs.ListLemmas.{and-true}
 nothing_later : (o : Option Refusal) → first_refusal o None ≡ o
 nothing_later None = refl
 nothing_later (Some why) = refl
-
-no_ranges : (of : Shape) → is_known_shape of ≡ true → is_ranges of ≡ false
-no_ranges shape.RangeSet h = absurd (cc)
-no_ranges shape.RangeMap h = absurd (cc)
-no_ranges _ h = refl
 
 pub shape_without_ranges : (world : World) (v : View) → is_known_view v ≡ true → is_known_kind (root world v).kind ≡ true → is_ranges (shape_at world v) ≡ false
 shape_without_ranges world v known kind = no_ranges (shape_at world v) (known_shape world v known (ap (λ (it : Base). is_known_kind it.kind) (known_base world v known) ∙ kind))
@@ -104,10 +98,6 @@ takes_edits it known one edit = all_taken it.kind known one (without_rows edit.g
 -- a base takes the edit that adds a row where it takes that row
 pub takes_one : (it : Base) (spot : Spot) (row : Item) → takes_change it (an_edit (adding spot (row ∷ []))) ≡ takes_row it.kind spot it.rows row
 takes_one it spot row = and-true (takes_row it.kind spot (without_rows [] 0 it.rows) row) ∙ ap (λ (rows : List Item). takes_row it.kind spot rows row) (without_none 0 it.rows)
-
--- and each base every removal
-pub takes_removals : (it : Base) (gone : List ℕ) → takes_change it (an_edit (removing gone)) ≡ true
-takes_removals it gone = refl
 
 -- an edit that a base takes is carried out
 pub carried : (world : World) (v : View) (answer : Answer) (edit : Edit) → takes_change (root world v) (an_edit edit) ≡ true → carried_out world v answer (Some (an_edit edit)) ≡ within_rows answer (edited_at world (number_under v) edit)

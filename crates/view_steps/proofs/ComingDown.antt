@@ -37,7 +37,8 @@ use Rattle.view_steps.proofs.ItemLemmas.{item_over}
 use Rattle.view_steps.proofs.KnownLemmas.{known_over, known_shape}
 use Rattle.view_steps.proofs.LaneLemmas.{AskDown, IsOfPart, ask_down, of_ask}
 use Rattle.view_steps.proofs.ListLemmas.{both as both_true}
-use Rattle.view_steps.proofs.UniqueParts.{part_down, part_from_below, unique_below}
+use Rattle.view_steps.proofs.PartTable.{part_down}
+use Rattle.view_steps.proofs.UniqueParts.{part_from_below, unique_below}
 
 -- ---- lanes
 

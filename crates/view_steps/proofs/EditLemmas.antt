@@ -1,13 +1,13 @@
 -- What a view shows after one row came or went.
-use Rattle.std.proofs.Common.{◌≡◌, List, [], ◌∷◌, ◌++◌, map, reverse, refl, ap, ◌∙◌, Bool, true, false, cond}
+use Rattle.std.proofs.Common.{◌≡◌, List, [], ◌∷◌, ◌++◌, map, reverse, refl, ap, sym, ◌∙◌, Bool, true, false, cond}
 use Rattle.std.specs.Prelude.{filter, not, Some, if◌then◌else◌}
 use Rattle.std.proofs.lemmas.List.{reverse-append, map-append, append_assoc}
 use Rattle.std.proofs.lemmas.List.Elements.{filter-append}
 use Rattle.vocabulary.specs.declared.items.Item.{Item}
 use Rattle.view_laws.specs.declared.places.Found.{Found}
-use Rattle.vocabulary.specs.declared.steps.PlainStep.TheVariants.{Reverse, KeySet, Values, EntrySet, Keys, Descending, Inverse, Transpose, ForMap, Unmodifiable}
+use Rattle.vocabulary.specs.declared.step_table.Family.{Family}
+use Rattle.vocabulary.specs.declared.step_table.Family.TheVariants.{Turned}
 use Rattle.vocabulary.specs.declared.steps.Step.{Step}
-use Rattle.vocabulary.specs.declared.steps.Step.TheVariants as step
 use Rattle.view_laws.specs.Lanes.{turned_if}
 use Rattle.vocabulary.specs.Steps.{family_of}
 use Rattle.machine.specs.Bases.{World}
@@ -17,6 +17,7 @@ use Rattle.view_steps.specs.KnownViews.{is_known_view}
 use Rattle.view_steps.specs.Turning.{turned, turns}
 use Rattle.view_laws.specs.RowForm.{RowForm, form_over, form_of, found_row_by, shows, shown_by, IsShownAs}
 use Rattle.view_steps.specs.RowHits.{one_more, ShownAround, FoundAround}
+use Rattle.view_steps.proofs.FamilyTable.{is_turned, turned_family}
 use Rattle.view_steps.proofs.KnownLemmas.{has_all_room, known_by_row}
 
 -- ---- adding
@@ -42,26 +43,12 @@ turned_more : (t : Bool) (is : List Item) (i : Item) → turned_if t (is ++ i �
 turned_more true is i = reverse-append is (i ∷ [])
 turned_more false is i = refl
 
-over_turned : (it : Step) (f : RowForm) → (form_over (family_of it) it f).turned ≡ (if turns it then not f.turned else f.turned)
-over_turned (step.Plain Reverse) f = refl
-over_turned (step.Plain KeySet) f = refl
-over_turned (step.Plain Values) f = refl
-over_turned (step.Plain EntrySet) f = refl
-over_turned (step.Plain Keys) f = refl
-over_turned (step.Plain Descending) f = refl
-over_turned (step.Plain Inverse) f = refl
-over_turned (step.Plain Transpose) f = refl
-over_turned (step.Plain ForMap) f = refl
-over_turned (step.Plain Unmodifiable) f = refl
-over_turned (step.Filter word p) f = refl
-over_turned (step.FilterPairs q) f = refl
-over_turned (step.Change word g) f = refl
-over_turned (step.Within order w) f = refl
-over_turned (step.At side k n) f = refl
-over_turned (step.Group side made) f = refl
-over_turned (step.Sub n s) f = refl
-over_turned (step.Partition n) f = refl
-over_turned (step.Piece n s) f = refl
+turned_in : (family : Family) (it : Step) (f : RowForm) → (form_over family it f).turned ≡ (if is_turned family then not f.turned else f.turned)
+turned_in Turned it f = refl
+turned_in _ it f = refl
+
+pub over_turned : (it : Step) (f : RowForm) → (form_over (family_of it) it f).turned ≡ (if turns it then not f.turned else f.turned)
+over_turned it f = turned_in (family_of it) it f ∙ ap (λ t. if t then not f.turned else f.turned) (sym (turned_family it))
 
 -- a form is turned where its view is
 pub form_turned : (v : View) → (form_of v).turned ≡ turned v

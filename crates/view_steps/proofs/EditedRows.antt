@@ -23,7 +23,7 @@ use Rattle.vocabulary.specs.Known.{is_known_kind}
 use Rattle.vocabulary.specs.Shapes.{is_bimap}
 use Rattle.view_steps.specs.KnownViews.{edited_at}
 use Rattle.view_steps.proofs.CountLemmas.{rows_in-written}
-use Rattle.view_steps.proofs.KindLemmas.{no_keys}
+use Rattle.view_steps.proofs.KindTable.{no_keys}
 use Rattle.view_steps.proofs.ListLemmas.{or-false}
 
 pub without_none : (n : ℕ) (rows : List Item) → without_rows [] n rows ≡ rows
@@ -66,7 +66,7 @@ adding_counted it known one spot rows =
 
 -- ---- rows that go
 
-item_itself : (item : Item) → same_item item item ≡ true
+pub item_itself : (item : Item) → same_item item item ≡ true
 item_itself (One x) = same_equiv.refl x
 item_itself (Entry k v) = rw (same_equiv.refl k, same_equiv.refl v) refl
 item_itself (Counted x n) = rw (same_equiv.refl x, number_itself n) refl

@@ -3,10 +3,8 @@ use Rattle.std.proofs.Common.{◌≡◌, true, false, ◌||◌, refl, ap, sym, s
 use Rattle.std.specs.Prelude.{IsSome}
 use Rattle.vocabulary.specs.declared.items.Item.{Item}
 use Rattle.vocabulary.specs.declared.shapes.Shape.{Shape}
-use Rattle.vocabulary.specs.declared.shapes.Shape.TheVariants as shape
-use Rattle.vocabulary.specs.declared.shapes.RowSort.TheVariants as rows
 use Rattle.vocabulary.specs.declared.step_table.Family.{Family}
-use Rattle.vocabulary.specs.declared.step_table.Family.TheVariants.{Same, Changed, Turned, Keyed, Hidden, Cut, Grouped, Run, Pieces}
+use Rattle.vocabulary.specs.declared.step_table.Family.TheVariants.{Same, Changed, Turned, Hidden, Cut}
 use Rattle.vocabulary.specs.declared.steps.Step.{Step}
 use Rattle.vocabulary.specs.Known.{is_known_kind}
 use Rattle.vocabulary.specs.StepShapes.{apply}
@@ -15,7 +13,7 @@ use Rattle.machine.specs.Bases.{World}
 use Rattle.machine.specs.Leaves.{leaf_at}
 use Rattle.machine.specs.MadeViews.{IsMade}
 use Rattle.machine.specs.Views.{View, base, both, over, base_under, shape_after, shape_at}
-use Rattle.view_laws.specs.ItemForms.{IsFormed, RowsFit, has_form, is_pieces, stands_on_pieces}
+use Rattle.view_laws.specs.ItemForms.{IsFormed, RowsFit, has_form, stands_on_pieces}
 use Rattle.view_laws.specs.Places.{found_row}
 use Rattle.view_laws.specs.RowForm.{RowForm, form_of, form_over, found_row_by}
 use Rattle.view_laws.proofs.FormLemmas.{given_shape}
@@ -23,16 +21,10 @@ use Rattle.view_laws.proofs.FormTable.{FormIn, form_after}
 use Rattle.view_laws.proofs.LiftTable.{leaves_items, left_items}
 use Rattle.view_steps.specs.Founds.{found_in_family, found_through_steps}
 use Rattle.view_steps.specs.KnownViews.{is_known, is_known_view}
-use Rattle.view_steps.proofs.KnownLemmas.{is_known_shape, is_plain, known_family, known_over, known_shape, of_families}
-
-pub no_pieces : (of : Shape) → is_known_shape of ≡ true → is_pieces of ≡ false
-no_pieces shape.List h = refl
-no_pieces (shape.Set sorted) h = refl
-no_pieces shape.Coll h = refl
-no_pieces (shape.Map sorted) h = refl
-no_pieces shape.BiMap h = refl
-no_pieces (shape.Rows rows.Entry) h = refl
-no_pieces _ h = absurd (cc)
+use Rattle.view_steps.specs.KnownShapes.{is_known_shape}
+use Rattle.view_steps.proofs.FamilyTable.{is_plain, known_family}
+use Rattle.view_steps.proofs.KnownLemmas.{known_over, known_shape, of_families}
+use Rattle.view_steps.proofs.KnownShapes.{no_pieces}
 
 apart : (world : World) (v : View) → is_known_view v ≡ true → is_known_kind (leaf_at world (base_under v)).kind ≡ true → stands_on_pieces world v ≡ false
 apart world (base l) known kind = refl
@@ -58,10 +50,7 @@ made_form Changed it e plain of given makes item h = makes item h
 made_form Turned it e plain of given makes item h = subst (λ (i : Item). has_form given i ≡ true) (sym (left_items it item (ap leaves_items e))) (makes item h)
 made_form Hidden it e plain of given makes item h = subst (λ (i : Item). has_form given i ≡ true) (sym (left_items it item (ap leaves_items e))) (makes item h)
 made_form Cut it e plain of given makes item h = makes item h
-made_form Keyed it e plain of given makes item h = absurd (cc)
-made_form Grouped it e plain of given makes item h = absurd (cc)
-made_form Run it e plain of given makes item h = absurd (cc)
-made_form Pieces it e plain of given makes item h = absurd (cc)
+made_form _ it e plain of given makes item h = absurd (cc)
 
 pub item_formed : (of : Shape) (it : Step) → is_known it ≡ true → IsSome (apply of it) → is_known_shape of ≡ true → (item : Item) → has_form of item ≡ true → has_form (shape_after of (apply of it)) (item_of it item) ≡ true
 item_formed of it known given shape item h =

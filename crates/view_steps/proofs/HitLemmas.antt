@@ -1,14 +1,13 @@
 -- The first hit among candidates.
-use Rattle.std.proofs.Common.{◌≡◌, ℕ, zero, suc, ◌+◌, ◌<◌, Bool, false, cond, ◌&&◌, List, [], ◌∷◌, length, map, drop, refl, ap, sym, ◌∙◌, arith, true, ◌||◌, ◌++◌, reverse, subst}
+use Rattle.std.proofs.Common.{◌≡◌, ℕ, zero, suc, ◌+◌, Bool, false, cond, ◌&&◌, List, [], ◌∷◌, map, drop, refl, ap, sym, ◌∙◌, true, ◌||◌, ◌++◌, reverse, subst}
 use Rattle.std.specs.Prelude.{find, slice_get, Some, Option, None, filter, is_some}
 use Rattle.std.specs.List.{drop-map, list_any}
 use Rattle.std.proofs.lemmas.List.{reverse-append}
-use Rattle.std.proofs.lemmas.Option.{same_Some}
 use Rattle.elem.specs.declared.elements.Elem.{Elem}
 use Rattle.vocabulary.specs.declared.items.Item.{Item}
 use Rattle.view_laws.specs.declared.places.Found.{Found}
 use Rattle.vocabulary.specs.declared.step_table.Family.{Family}
-use Rattle.vocabulary.specs.declared.step_table.Family.TheVariants.{Same, Changed, Turned, Keyed, Hidden, Cut, Grouped, Run, Pieces}
+use Rattle.vocabulary.specs.declared.step_table.Family.TheVariants.{Same, Changed, Turned, Hidden, Cut}
 use Rattle.vocabulary.specs.declared.steps.Step.{Step}
 use Rattle.machine.specs.CallEdits.{first_hit, is_hit, rows_of_first}
 use Rattle.view_laws.specs.Places.{found_in}
@@ -21,9 +20,9 @@ use Rattle.machine.specs.Views.{View, base, both, over, candidates, order_over, 
 use Rattle.vocabulary.specs.Steps.{family_of, item_of, passes}
 use Rattle.machine.specs.Shown.{has_key}
 use Rattle.view_steps.proofs.FoundLemmas.{drop_at}
-use Rattle.view_steps.proofs.KnownLemmas.{is_plain, known_family, known_over}
+use Rattle.view_steps.proofs.FamilyTable.{is_plain, known_family}
+use Rattle.view_steps.proofs.KnownLemmas.{known_over}
 use Rattle.view_steps.proofs.ListLemmas.{filter-map, never}
-use Rattle.view_steps.proofs.MemberLemmas.{StandsIn}
 
 -- the candidate that shows what is found
 pub record IsCandidate (cs : List Candidate) (i : ℕ) (d : Found) : Type 0 where
@@ -53,11 +52,6 @@ first_here passes cs i d it t h =
 pub hit_later : (passes : Item → Bool) (cs : List Candidate) (i : ℕ) (d : Found) (rest : List Found) → drop i (map found_in cs) ≡ d ∷ rest → found_hit passes d ≡ false
     → find (is_hit passes) (drop (i + 1) cs) ≡ find (is_hit passes) (drop i cs)
 hit_later passes cs i d rest h miss = sym (first_here passes cs i d (candidate_at cs i d rest h) false miss)
-
-pub fewer_left : (cs : List Candidate) (i : ℕ) (d : Found) (rest : List Found) → drop i (map found_in cs) ≡ d ∷ rest → length (drop (i + 1) cs) < length (drop i cs)
-fewer_left cs i d rest h =
-    let it = candidate_at cs i d rest h in
-    omega (arith, ap length (drop_at cs i it.candidate it.there))
 
 pub no_more : (cs : List Candidate) → map found_in cs ≡ [] → cs ≡ []
 no_more [] h = refl
@@ -105,10 +99,7 @@ rows_over Changed it order cs plain a = rows_changed (item_of it) cs a
 rows_over Turned it order cs plain a = rows_reverse cs a
 rows_over Hidden it order cs plain a = rows_hidden (passes it) cs a
 rows_over Cut it order cs plain a = rows_changed (item_of it) (cut (passes it) cs) (rows_cut (passes it) cs a)
-rows_over Keyed it order cs plain a = absurd (cc)
-rows_over Grouped it order cs plain a = absurd (cc)
-rows_over Run it order cs plain a = absurd (cc)
-rows_over Pieces it order cs plain a = absurd (cc)
+rows_over _ it order cs plain a = absurd (cc)
 
 rows_base : (n : ℕ) (rows : List Item) → HaveRows (of_rows n rows)
 rows_base n [] = tt
@@ -193,9 +184,3 @@ one_missed passes d (c ∷ e ∷ cs) one miss = absurd (cc)
 pub key_missed : (passes : Item → Bool) (k : Elem) (d : Found) (cs : List Candidate) → ((item : Item) → passes item ≡ true → has_key k item ≡ true)
     → filter (λ (e : Found). has_key k e.item) (map found_in cs) ≡ d ∷ [] → found_hit passes d ≡ false → first_hit passes cs ≡ []
 key_missed passes k d cs imply one miss = first_of_key passes k cs imply ∙ one_missed passes d (of_key k cs) (found_of_key k cs ∙ one) miss
-
-pub alone : (d : Found) (c : Candidate) (cs : List Candidate) → map found_in cs ≡ d ∷ [] → StandsIn cs c → cs ≡ c ∷ []
-alone d c [] one (i, at) = absurd (cc)
-alone d c (e ∷ []) one (zero, at) = ap (λ x. x ∷ []) (same_Some e c at)
-alone d c (e ∷ []) one (suc i, at) = absurd (cc)
-alone d c (e ∷ f ∷ cs) one (i, at) = absurd (cc)

@@ -6,29 +6,27 @@ use Rattle.std.proofs.lemmas.List.{reverse-append}
 use Rattle.elem.specs.declared.elements.Elem.{Elem}
 use Rattle.vocabulary.specs.declared.items.Item.{Item}
 use Rattle.vocabulary.specs.declared.items.Item.TheVariants.{One, Entry}
-use Rattle.vocabulary.specs.declared.kinds.Kind.{Kind}
-use Rattle.vocabulary.specs.declared.kinds.Kind.TheVariants as kinds
 use Rattle.vocabulary.specs.declared.shapes.RowSort.TheVariants as rows
 use Rattle.vocabulary.specs.declared.shapes.Shape.{Shape}
 use Rattle.vocabulary.specs.declared.shapes.Shape.TheVariants as shape
-use Rattle.vocabulary.specs.declared.steps.PlainStep.TheVariants.{Reverse, KeySet, Values, EntrySet, Keys, Descending, Inverse, Transpose, ForMap, Unmodifiable}
+use Rattle.vocabulary.specs.declared.step_table.Family.{Family}
+use Rattle.vocabulary.specs.declared.step_table.Family.TheVariants.{Changed, Keyed, Cut}
 use Rattle.vocabulary.specs.declared.steps.Step.{Step}
-use Rattle.vocabulary.specs.declared.steps.Step.TheVariants as step
 use Rattle.machine.specs.Shown.{has_key, is_shown}
 use Rattle.vocabulary.specs.Shapes.{is_elements, is_map}
-use Rattle.vocabulary.specs.Fits.{is_entries}
-use Rattle.vocabulary.specs.Kinds.{shape_of_kind}
 use Rattle.view_laws.specs.ItemForms.{has_form}
 use Rattle.view_laws.specs.Lanes.{turned_if}
 use Rattle.view_laws.specs.RowForm.{RowForm, form_over}
 use Rattle.vocabulary.specs.StepShapes.{apply}
 use Rattle.vocabulary.specs.Steps.{family_of, item_of}
 use Rattle.vocabulary.specs.Items.{same_item}
-use Rattle.vocabulary.specs.Known.{is_known_kind}
 use Rattle.machine.specs.Views.{shape_after}
 use Rattle.view_steps.specs.KnownViews.{is_known}
+use Rattle.view_steps.specs.KnownShapes.{is_known_shape}
+use Rattle.view_steps.proofs.FamilyTable.{makes_items, unmade}
 use Rattle.view_steps.proofs.FormedLemmas.{item_formed}
-use Rattle.view_steps.proofs.KnownLemmas.{is_known_shape, shape_over}
+use Rattle.view_steps.proofs.KnownShapeTable.{shape_over}
+pub use Rattle.view_steps.proofs.KindTable.{no_entries}
 
 -- a view of a known shape shows elements, or entries
 abbrev pub IsItemIn : Shape → Item → Type 0
@@ -56,10 +54,6 @@ pub each_turned : (P : Item → Type 0) (t : Bool) (xs : List Item) → Each P x
 each_turned P true xs a = each_reverse P xs a
 each_turned P false xs a = a
 
-pub no_entries : (kind : Kind) → is_known_kind kind ≡ true → is_entries (shape_of_kind kind) ≡ false
-no_entries (kinds.Rows sort) h = absurd (cc)
-no_entries _ h = refl
-
 -- such an item has the form of the shape, which is known, and what has it is one
 item_form : (of : Shape) (item : Item) → IsItemIn of item → (is_known_shape of ≡ true) × (has_form of item ≡ true)
 item_form shape.List (One x) h = (refl, refl)
@@ -86,25 +80,13 @@ step_item of it known item given h =
 
 -- what a form makes of a row, over a step
 pub item_over : (it : Step) (f : RowForm) (row : Item) → (form_over (family_of it) it f).item row ≡ item_of it (f.item row)
-item_over (step.Plain Reverse) f row = refl
-item_over (step.Plain KeySet) f row = refl
-item_over (step.Plain Values) f row = refl
-item_over (step.Plain EntrySet) f row = refl
-item_over (step.Plain Keys) f row = refl
-item_over (step.Plain Descending) f row = refl
-item_over (step.Plain Inverse) f row = refl
-item_over (step.Plain Transpose) f row = refl
-item_over (step.Plain ForMap) f row = refl
-item_over (step.Plain Unmodifiable) f row = refl
-item_over (step.Filter word p) f row = refl
-item_over (step.FilterPairs q) f row = refl
-item_over (step.Change word g) f row = refl
-item_over (step.Within order w) f row = refl
-item_over (step.At side k n) f row = refl
-item_over (step.Group side made) f row = refl
-item_over (step.Sub n s) f row = refl
-item_over (step.Partition n) f row = refl
-item_over (step.Piece n s) f row = refl
+item_over it f row = by (family_of it) refl
+  where
+    by : (family : Family) → family_of it ≡ family → (form_over family it f).item row ≡ item_of it (f.item row)
+    by Changed e = refl
+    by Keyed e = refl
+    by Cut e = refl
+    by _ e = sym (unmade it (f.item row) (ap makes_items e))
 
 -- ---- collections have elements, and maps have entries
 
@@ -134,22 +116,9 @@ an_entry (shape.Map sorted) item h i = absurd i
 an_entry shape.BiMap item h i = absurd i
 an_entry _ item h i = absurd (cc)
 
-pub no_entry : (of : Shape) (k w : Elem) → is_elements of ≡ true → IsItemIn of (Entry k w) → ⊥
-no_entry of k w h i = let e = an_element of (Entry k w) h i in cc
-
-pub no_element : (of : Shape) (x : Elem) → is_map of ≡ true → IsItemIn of (One x) → ⊥
-no_element of x h i = let e = an_entry of (One x) h i in cc
-
 pub shown_element : (of : Shape) (items : List Item) (x : Elem) → is_elements of ≡ true → Each (IsItemIn of) items → list_any (has_key x) items ≡ is_shown items (One x)
 shown_element of [] x h e = refl
 shown_element of (item ∷ items) x h e =
     let one = an_element of item h e.0 in
     let here : has_key x item ≡ same_item (One x) item = rw one.same refl in
     ap (λ b. b || list_any (has_key x) items) here ∙ ap (λ b. same_item (One x) item || b) (shown_element of items x h e.1)
-
-pub no_entry_shown : (of : Shape) (items : List Item) (k w : Elem) → is_elements of ≡ true → Each (IsItemIn of) items → false ≡ is_shown items (Entry k w)
-no_entry_shown of [] k w h e = refl
-no_entry_shown of (item ∷ items) k w h e =
-    let one = an_element of item h e.0 in
-    let here : false ≡ same_item (Entry k w) item = rw one.same refl in
-    no_entry_shown of items k w h e.1 ∙ ap (λ b. b || is_shown items (Entry k w)) here

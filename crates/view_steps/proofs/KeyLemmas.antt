@@ -1,34 +1,15 @@
 -- The candidates of a key: one at most, found from the row of the base that has it.
-use Rattle.std.proofs.Common.{◌≡◌, Bool, true, false, cond, ◌&&◌, ◌||◌, List, [], ◌∷◌, map, refl, ap, sym, ◌∙◌, subst}
+use Rattle.std.proofs.Common.{◌≡◌, Bool, true, false, cond, ◌&&◌, ◌||◌, List, [], ◌∷◌, refl, ap, ◌∙◌}
 use Rattle.std.specs.Prelude.{nat_eq, filter, find, slice_get, Option, Some, None, is_some}
-use Rattle.std.specs.List.{IsDistinct, AllByRecursion, list_any}
+use Rattle.std.specs.List.{list_any}
 use Rattle.std.specs.Option.{option_to_list}
-use Rattle.elem.specs.declared.elements.Elem.{Elem}
 use Rattle.elem.specs.Elements.{same}
-use Rattle.elem.specs.ElementLaws.{same-Decides, same_equiv}
+use Rattle.elem.specs.ElementLaws.{same_equiv}
 use Rattle.vocabulary.specs.declared.items.Item.{Item}
 use Rattle.vocabulary.specs.declared.items.Item.TheVariants.{One, Entry, Counted, Cell, Group, Piece, Range, RangeEntry, Pair, Edge}
-use Rattle.view_laws.specs.declared.places.Found.{Found}
 use Rattle.machine.specs.Shown.{has_key}
 use Rattle.vocabulary.specs.Items.{key_of, no_element, same_item}
 use Rattle.view_steps.proofs.ListLemmas.{both, never, or-false}
-
-no_row : (k : Elem) (rows : List Item) → AllByRecursion (λ y. same k y ≡ false) (map key_of rows) → filter (has_key k) rows ≡ []
-no_row k [] all = refl
-no_row k (row ∷ rows) all = ap (λ b. cond b (row ∷ filter (has_key k) rows) (filter (has_key k) rows)) all.0 ∙ no_row k rows all.1
-
-pub one_row : (k : Elem) (rows : List Item) → IsDistinct same (map key_of rows) → filter (has_key k) rows ≡ option_to_list (find (has_key k) rows)
-unfolding IsDistinct
-one_row k [] d = refl
-one_row k (row ∷ rows) d = by (same k (key_of row)) refl (one_row k rows d.1)
-  where
-    by : (t : Bool) → same k (key_of row) ≡ t → filter (has_key k) rows ≡ option_to_list (find (has_key k) rows) → cond t (row ∷ filter (has_key k) rows) (filter (has_key k) rows) ≡ option_to_list (cond t (Some row) (find (has_key k) rows))
-    by true e rest = ap (λ is. row ∷ is) (no_row k rows (subst (λ (x : Elem). AllByRecursion (λ y. same x y ≡ false) (map key_of rows)) (sym ((same-Decides k (key_of row)).0 e)) d.0))
-    by false e rest = rest
-
-pub none_taken : (ds : List Found) → filter (λ (d : Found). false) ds ≡ []
-none_taken [] = refl
-none_taken (d ∷ ds) = none_taken ds
 
 find_first : {X : Type 0} (p : X → Bool) (xs : List X) → find p xs ≡ slice_get (filter p xs) 0
 find_first p [] = refl

@@ -1,5 +1,5 @@
 -- Lanes that ask of one part come down to the base of a view whose steps are known, and the base serves them.
-use Rattle.std.proofs.Common.{◌≡◌, Bool, true, false, cond, ◌&&◌, refl, ap, sym, ◌∙◌, subst}
+use Rattle.std.proofs.Common.{◌≡◌, Bool, true, false, cond, ◌&&◌, IfSome, refl, ap, sym, ◌∙◌, subst}
 use Rattle.std.specs.Prelude.{Option, Some, None, option_map}
 use Rattle.std.specs.Option.{option_and_then}
 use Rattle.std.proofs.lemmas.Option.{same_Some}
@@ -10,9 +10,8 @@ use Rattle.vocabulary.specs.declared.items.Side.TheVariants.{First, Second}
 use Rattle.vocabulary.specs.declared.orders.Order.{Order}
 use Rattle.vocabulary.specs.declared.shapes.Shape.{Shape}
 use Rattle.vocabulary.specs.declared.step_table.Family.{Family}
-use Rattle.vocabulary.specs.declared.step_table.Family.TheVariants.{Same, Changed, Turned, Keyed, Hidden, Cut, Grouped, Run, Pieces}
+use Rattle.vocabulary.specs.declared.step_table.Family.TheVariants.{Same, Changed, Turned, Hidden, Cut}
 use Rattle.vocabulary.specs.declared.steps.Step.{Step}
-use Rattle.vocabulary.specs.declared.steps.Step.TheVariants as step
 use Rattle.vocabulary.specs.Known.{is_known_kind}
 use Rattle.vocabulary.specs.Orders.{upto, encloses, lies_in, same_order}
 use Rattle.vocabulary.specs.Shapes.{is_sorted, is_unique}
@@ -20,7 +19,7 @@ use Rattle.vocabulary.specs.Steps.{family_of}
 use Rattle.machine.specs.Bases.{World}
 use Rattle.machine.specs.KeptSteps.{order_at, window_at}
 use Rattle.machine.specs.Leaves.{Leaf, leaf_at}
-use Rattle.machine.specs.MadeViews.{IsMade, IsStepOn, IsKept}
+use Rattle.machine.specs.MadeViews.{IsMade, IsStepOn}
 use Rattle.machine.specs.Views.{View, base, both, over, base_under, shape_at}
 use Rattle.view_laws.specs.declared.lanes.GroupOrder.{GroupOrder}
 use Rattle.view_laws.specs.declared.lanes.Lane.{Lane}
@@ -34,9 +33,13 @@ use Rattle.view_laws.specs.Serving.{ServesPart}
 use Rattle.view_steps.specs.KnownLanes.{part_below, part_from}
 use Rattle.view_steps.specs.KnownViews.{is_known, is_known_view}
 use Rattle.view_laws.proofs.LiftTable.{leaves_items}
-use Rattle.view_steps.proofs.AskTable.{asks_none, leaves_out, own_ask, own_asked, source_kept}
-use Rattle.view_steps.proofs.KnownLemmas.{is_known_shape, is_plain, known_family, known_over, known_shape}
-use Rattle.view_steps.proofs.UniqueParts.{PartFrom, first_told, part_down, part_from_below, sorted_down, sorted_first, sorted_keyed, window_sorted}
+use Rattle.view_steps.specs.KnownShapes.{is_known_shape}
+use Rattle.view_steps.proofs.AskTable.{IsWindowOn, ask_in, asks_none, leaves_out, own_asked, own_window, source_kept, window_above, window_in, window_on, window_source}
+use Rattle.view_steps.proofs.FamilyTable.{is_plain, known_family}
+use Rattle.view_steps.proofs.KnownLemmas.{known_over, known_shape}
+use Rattle.view_steps.proofs.KnownShapes.{sorted_first, sorted_keyed}
+use Rattle.view_steps.proofs.PartTable.{PartFrom, first_told, part_down, sorted_down}
+use Rattle.view_steps.proofs.UniqueParts.{part_from_below}
 use Rattle.view_steps.proofs.WindowLemmas.{same_order-refl, encloses-chain}
 
 -- the lane that asks this of a part; what asks for nothing asks it of the keys
@@ -76,10 +79,7 @@ narrowed order it a b known stays Changed e plain = ap (asks_moved (source_of it
 narrowed order it a b known stays Turned e plain = kept_below it (asking a b) known (ap leaves_items e) stays
 narrowed order it a b known stays Hidden e plain = kept_below it (asking a b) known (ap leaves_items e) stays
 narrowed order it a b known stays Cut e plain = refl
-narrowed order it a b known stays Keyed e plain = absurd (cc)
-narrowed order it a b known stays Grouped e plain = absurd (cc)
-narrowed order it a b known stays Run e plain = absurd (cc)
-narrowed order it a b known stays Pieces e plain = absurd (cc)
+narrowed order it a b known stays _ e plain = absurd (cc)
 
 narrow_known : (order : GroupOrder) (it : Step) (side : Side) (ask : PartAsk) → is_known it ≡ true → narrow order it (of_ask side ask) ≡ below_step it (of_ask side ask)
 narrow_known order it First ask known = narrowed order it ask Any known (lane_stays ask) (family_of it) refl (known_family it known)
@@ -111,7 +111,7 @@ told_all of it Second (Within order w) first told = told
 told_all of it Second Nothing first told = ap (λ b. b && true) first
 
 step_asks : (of : Shape) (order : GroupOrder) (it : Step) (side : Side) (ask : PartAsk) → is_known it ≡ true → tells_on of it First ≡ true → tells_on of it side ≡ true
-    → narrow_on of order it (of_ask side ask) ≡ moved (source_of it side) ask (asking (own_ask it) Any)
+    → narrow_on of order it (of_ask side ask) ≡ moved (source_of it side) ask (asking (ask_in (own_window it)) Any)
 step_asks of order it side ask known first told =
     ap (λ b. cond b (narrow order it (of_ask side ask)) None) (told_all of it side ask first told)
     ∙ narrow_known order it side ask known ∙ moved_one it side ask ∙ ap (moved (source_of it side) ask) (own_asked it known)
@@ -122,7 +122,7 @@ step_asks of order it side ask known first told =
 abbrev pub HasAsk : World → View → Side → PartAsk → Type 0
 HasAsk world v side Any = Unit {0}
 HasAsk world v side (Is x) = is_unique (shape_at world v) side ≡ true
-HasAsk world v First (Within order w) = (is_sorted (shape_at world v) ≡ true) × (order ≡ order_at world v) × (upto order w.lo w.hi ≡ true) × (encloses order (window_at v) w ≡ true)
+HasAsk world v First (Within order w) = IsWindowOn world v order w
 HasAsk world v Second (Within order w) = ⊥
 HasAsk world v side Nothing = Unit {0}
 
@@ -151,14 +151,17 @@ record IsStep (world : World) (it : Step) (v : View) : Type 0 where
 told_first : (world : World) (it : Step) (v : View) → IsStep world it v → tells_on (shape_at world v) it First ≡ true
 told_first world it v s = first_told (shape_at world v) it s.shape s.known
 
-own_has : (world : World) (it : Step) (v : View) → IsStep world it v → HasAsk world v First (own_ask it)
-own_has world (step.Within o w) v s = (window_sorted (shape_at world v) o w s.shape s.on.given, s.on.kept.0, s.on.kept.1, s.on.kept.2)
-own_has world _ v s = tt
+own_has : (world : World) (it : Step) (v : View) → IsStep world it v → HasAsk world v First (ask_in (own_window it))
+own_has world it v s = by (own_window it) (window_on world it v s.shape s.on)
+  where
+    by : (o : Option (Order × Window)) → IfSome o (λ (asked : Order × Window). IsWindowOn world v asked.0 asked.1) → HasAsk world v First (ask_in o)
+    by None on = tt
+    by (Some asked) on = on
 
 under_any : (world : World) (it : Step) (v : View) (order : GroupOrder) → IsStep world it v → AskBelow world it v order First Any
 under_any world it v order s = record {
   part = First;
-  below = own_ask it;
+  below = ask_in (own_window it);
   down = step_asks (shape_at world v) order it First Any s.known (told_first world it v s) (told_first world it v s);
   has = own_has world it v s;
   of_part = λ t x is. absurd is;
@@ -183,58 +186,88 @@ asks_element : (b : Side) (x : Elem) → with_ask b (Is x) (asking Any Any) ≡ 
 asks_element First x = refl
 asks_element Second x = refl
 
-element_moved : (world : World) (it : Step) (v : View) (order : GroupOrder) (side : Side) (x : Elem) → IsStep world it v → PartFrom (shape_at world v) it side → own_ask it ≡ Any → AskBelow world it v order side (Is x)
+element_moved : (world : World) (it : Step) (v : View) (order : GroupOrder) (side : Side) (x : Elem) → IsStep world it v → PartFrom (shape_at world v) it side → own_window it ≡ None → AskBelow world it v order side (Is x)
 element_moved world it v order side x s p none = record {
   part = p.below;
   below = Is x;
   down = step_asks (shape_at world v) order it side (Is x) s.known (told_first world it v s) p.told
-      ∙ ap (λ (o : Option Side). moved o (Is x) (asking (own_ask it) Any)) p.from
-      ∙ ap (λ (a : PartAsk). with_ask p.below (Is x) (asking a Any)) none
+      ∙ ap (λ (o : Option Side). moved o (Is x) (asking (ask_in (own_window it)) Any)) p.from
+      ∙ ap (λ (w : Option (Order × Window)). with_ask p.below (Is x) (asking (ask_in w) Any)) none
       ∙ asks_element p.below x;
   has = p.unique;
   of_part = λ t y is. is_moved it side p.below x p.from t y is;
 }
 
--- beside a window, it is asked for where it lies in that
-key_in_window : (world : World) (o : Order) (w : Window) (v : View) (order : GroupOrder) (k : Elem) → is_unique (shape_at world v) First ≡ true → AskBelow world (step.Within o w) v order First (Is k)
-key_in_window world o w v order k keyed = by (lies_in o w k) refl
-  where
-    by : (t : Bool) → lies_in o w k ≡ t → AskBelow world (step.Within o w) v order First (Is k)
-    by true h = record { part = First; below = Is k; down = ap (λ t. Some (of_ask First (cond t (Is k) Nothing))) h; has = keyed; of_part = λ t x is. is }
-    by false h = record { part = First; below = Nothing; down = ap (λ t. Some (of_ask First (cond t (Is k) Nothing))) h; has = tt; of_part = λ t x is. tt }
+-- ---- beside the window of a step
 
-element_in_window : (world : World) (o : Order) (w : Window) (v : View) (order : GroupOrder) (side : Side) (x : Elem) → IsStep world (step.Within o w) v → PartFrom (shape_at world v) (step.Within o w) side → AskBelow world (step.Within o w) v order side (Is x)
-element_in_window world o w v order side x s p =
-    let key : p.below ≡ First = sorted_first (shape_at world v) p.below (window_sorted (shape_at world v) o w s.shape s.on.given) p.unique in
-    let same : side ≡ First = same_Some side p.below p.from ∙ key in
-    subst (λ (t : Side). AskBelow world (step.Within o w) v order t (Is x)) (sym same)
-    (key_in_window world o w v order x (subst (λ (t : Side). is_unique (shape_at world v) t ≡ true) key p.unique))
+-- a step that leaves items in a window
+record IsWindowed (world : World) (it : Step) (v : View) (order : Order) (w : Window) : Type 0 where
+  own : own_window it ≡ Some (order, w)
+  first : source_of it First ≡ Some First
+  on : IsWindowOn world v order w
+
+windowed : (world : World) (it : Step) (v : View) (asked : Order × Window) → IsStep world it v → own_window it ≡ Some asked → IsWindowed world it v asked.0 asked.1
+windowed world it v asked s e = record {
+  own = e;
+  first = subst (λ (o : Option (Order × Window)). IfSome o (λ (a : Order × Window). source_of it First ≡ Some First)) e (window_source it First);
+  on = subst (λ (o : Option (Order × Window)). IfSome o (λ (a : Order × Window). IsWindowOn world v a.0 a.1)) e (window_on world it v s.shape s.on);
+}
+
+window_asks : (world : World) (it : Step) (v : View) (order : GroupOrder) (o : Order) (w : Window) (ask : PartAsk) → IsStep world it v → IsWindowed world it v o w
+    → narrow_on (shape_at world v) order it (of_ask First ask) ≡ moved (Some First) ask (asking (Within o w) Any)
+window_asks world it v order o w ask s in_window =
+    step_asks (shape_at world v) order it First ask s.known (told_first world it v s) (told_first world it v s)
+    ∙ (λ i. moved (in_window.first i) ask (asking (ask_in (in_window.own i)) Any))
+
+-- an element is asked for where it lies in that
+key_in_window : (world : World) (it : Step) (v : View) (order : GroupOrder) (o : Order) (w : Window) (k : Elem) → IsStep world it v → IsWindowed world it v o w → is_unique (shape_at world v) First ≡ true → AskBelow world it v order First (Is k)
+key_in_window world it v order o w k s in_window keyed = by (lies_in o w k) refl
+  where
+    asked : (t : Bool) → lies_in o w k ≡ t → narrow_on (shape_at world v) order it (of_ask First (Is k)) ≡ Some (of_ask First (cond t (Is k) Nothing))
+    asked t h = window_asks world it v order o w (Is k) s in_window ∙ ap (λ t. Some (of_ask First (cond t (Is k) Nothing))) h
+
+    by : (t : Bool) → lies_in o w k ≡ t → AskBelow world it v order First (Is k)
+    by true h = record { part = First; below = Is k; down = asked true h; has = keyed; of_part = λ t x is. is_moved it First First k in_window.first t x is }
+    by false h = record { part = First; below = Nothing; down = asked false h; has = tt; of_part = λ t x is. tt }
+
+-- only the keys of a sorted view are asked for so
+element_in_window : (world : World) (it : Step) (v : View) (order : GroupOrder) (side : Side) (o : Order) (w : Window) (x : Elem) → IsStep world it v → IsWindowed world it v o w → source_of it side ≡ Some side → PartFrom (shape_at world v) it side → AskBelow world it v order side (Is x)
+element_in_window world it v order side o w x s in_window stays p =
+    let key : p.below ≡ First = sorted_first (shape_at world v) p.below in_window.on.0 p.unique in
+    let same : side ≡ First = same_Some side p.below (sym stays ∙ p.from) ∙ key in
+    subst (λ (t : Side). AskBelow world it v order t (Is x)) (sym same)
+    (key_in_window world it v order o w x s in_window (subst (λ (t : Side). is_unique (shape_at world v) t ≡ true) key p.unique))
 
 under_element : (world : World) (it : Step) (v : View) (order : GroupOrder) (side : Side) (x : Elem) → IsStep world it v → PartFrom (shape_at world v) it side → AskBelow world it v order side (Is x)
-under_element world (step.Within o w) v order side x s p = element_in_window world o w v order side x s p
-under_element world it v order side x s p = element_moved world it v order side x s p refl
+under_element world it v order side x s p = by (own_window it) refl (window_source it side)
+  where
+    by : (o : Option (Order × Window)) → own_window it ≡ o → IfSome o (λ (asked : Order × Window). source_of it side ≡ Some side) → AskBelow world it v order side (Is x)
+    by None e stays = element_moved world it v order side x s p e
+    by (Some asked) e stays = element_in_window world it v order side asked.0 asked.1 x s (windowed world it v asked s e) stays p
 
 -- ---- a window
 
-window_moved : (world : World) (it : Step) (v : View) (order : GroupOrder) (other : Order) (inner : Window) → IsStep world it v → source_of it First ≡ Some First → own_ask it ≡ Any → HasAsk world v First (Within other inner)
+window_moved : (world : World) (it : Step) (v : View) (order : GroupOrder) (other : Order) (inner : Window) → IsStep world it v → source_of it First ≡ Some First → own_window it ≡ None → HasAsk world v First (Within other inner)
     → AskBelow world it v order First (Within other inner)
 window_moved world it v order other inner s from none has = record {
   part = First;
   below = Within other inner;
   down = step_asks (shape_at world v) order it First (Within other inner) s.known (told_first world it v s) (told_first world it v s)
-      ∙ ap (λ (o : Option Side). moved o (Within other inner) (asking (own_ask it) Any)) from
-      ∙ ap (λ (a : PartAsk). with_ask First (Within other inner) (asking a Any)) none;
+      ∙ (λ i. moved (from i) (Within other inner) (asking (ask_in (none i)) Any));
   has = has;
   of_part = λ t x is. absurd is;
 }
 
 -- the smaller of two windows, one of which encloses the other
-window_in_window : (world : World) (o other : Order) (w inner : Window) (v : View) (order : GroupOrder) → is_sorted (shape_at world v) ≡ true → IsKept world v (step.Within o w)
-    → (other ≡ order_at world v) × (upto other inner.lo inner.hi ≡ true) × (encloses other w inner ≡ true) → AskBelow world (step.Within o w) v order First (Within other inner)
-window_in_window world o other w inner v order sorted rule has = by (encloses other inner w) refl
+window_in_window : (world : World) (it : Step) (v : View) (order : GroupOrder) (o other : Order) (w inner : Window) → IsStep world it v → IsWindowed world it v o w
+    → (other ≡ order_at world v) × (upto other inner.lo inner.hi ≡ true) × (encloses other w inner ≡ true) → AskBelow world it v order First (Within other inner)
+window_in_window world it v order o other w inner s in_window has = by (encloses other inner w) refl
   where
+    on : IsWindowOn world v o w
+    on = in_window.on
+
     same : other ≡ o
-    same = has.0 ∙ sym rule.0
+    same = has.0 ∙ sym on.1
 
     orders : same_order other o ≡ true
     orders = ap (λ (x : Order). same_order x o) same ∙ same_order-refl o
@@ -243,23 +276,30 @@ window_in_window world o other w inner v order sorted rule has = by (encloses ot
     inside = subst (λ (x : Order). encloses x w inner ≡ true) same has.2
 
     outer : encloses other (window_at v) inner ≡ true
-    outer = subst (λ (x : Order). encloses x (window_at v) inner ≡ true) (sym same) (encloses-chain o (window_at v) w inner rule.2 inside)
+    outer = subst (λ (x : Order). encloses x (window_at v) inner ≡ true) (sym same) (encloses-chain o (window_at v) w inner on.3 inside)
 
     asks : (t : Bool) → encloses other inner w ≡ t → both_asks (Within other inner) (Within o w) ≡ cond t (Some (Within o w)) (Some (Within other inner))
     asks true h = rw (orders, h) refl
     asks false h = rw (orders, h, has.2) refl
 
-    asked : Option PartAsk → Option Lane
-    asked a = option_and_then (λ below. moved (Some Second) Any below) (option_map (with_first (asking (Within o w) Any)) a)
+    asked : (t : Bool) → encloses other inner w ≡ t → narrow_on (shape_at world v) order it (of_ask First (Within other inner)) ≡ option_map (with_first (asking (Within o w) Any)) (cond t (Some (Within o w)) (Some (Within other inner)))
+    asked t h = window_asks world it v order o w (Within other inner) s in_window ∙ ap (option_map (with_first (asking (Within o w) Any))) (asks t h)
 
-    by : (t : Bool) → encloses other inner w ≡ t → AskBelow world (step.Within o w) v order First (Within other inner)
-    by true h = record { part = First; below = Within o w; down = ap asked (asks true h); has = (sorted, rule.0, rule.1, rule.2); of_part = λ t x is. absurd is }
-    by false h = record { part = First; below = Within other inner; down = ap asked (asks false h); has = (sorted, has.0, has.1, outer); of_part = λ t x is. absurd is }
+    by : (t : Bool) → encloses other inner w ≡ t → AskBelow world it v order First (Within other inner)
+    by true h = record { part = First; below = Within o w; down = asked true h; has = on; of_part = λ t x is. absurd is }
+    by false h = record { part = First; below = Within other inner; down = asked false h; has = (on.0, has.0, has.1, outer); of_part = λ t x is. absurd is }
 
+-- the window of the view above is that of a step that has one
 under_window : (world : World) (it : Step) (v : View) (order : GroupOrder) (other : Order) (inner : Window) → IsStep world it v → source_of it First ≡ Some First → is_sorted (shape_at world v) ≡ true → HasAsk world (over it v) First (Within other inner)
     → AskBelow world it v order First (Within other inner)
-under_window world (step.Within o w) v order other inner s from sorted has = window_in_window world o other w inner v order sorted s.on.kept (has.1, has.2, has.3)
-under_window world it v order other inner s from sorted has = window_moved world it v order other inner s from refl (sorted, has.1, has.2, has.3)
+under_window world it v order other inner s from sorted has = by (own_window it) refl
+  where
+    above : (o : Option (Order × Window)) → own_window it ≡ o → encloses other (window_in o (window_at v)) inner ≡ true
+    above o e = subst (λ (w : Window). encloses other w inner ≡ true) (window_above it (window_at v) ∙ ap (λ o. window_in o (window_at v)) e) has.3
+
+    by : (o : Option (Order × Window)) → own_window it ≡ o → AskBelow world it v order First (Within other inner)
+    by None e = window_moved world it v order other inner s from e (sorted, has.1, has.2, above None e)
+    by (Some asked) e = window_in_window world it v order asked.0 other asked.1 inner s (windowed world it v asked s e) (has.1, has.2, above (Some asked) e)
 
 keys_from : (world : World) (it : Step) (v : View) → IsStep world it v → is_sorted (shape_at world v) ≡ true → is_sorted (shape_at world (over it v)) ≡ true → source_of it First ≡ Some First
 keys_from world it v s sorted above =
@@ -301,14 +341,14 @@ ask_down world (base l) side ask back known kind made has = record { part = side
 ask_down world (over it v) side ask back known kind made has =
     let parts = known_over it v known in
     let s : IsStep world it v = record { known = parts.0; shape = known_shape world v parts.1 kind; above = known_shape world (over it v) known kind; on = made.0 } in
-    let step = ask_below world it v (group_order_at world v it) side ask s has in
-    let rest = ask_down world v step.part step.below (flipped it back) parts.1 kind made.1 step.has in
+    let under = ask_below world it v (group_order_at world v it) side ask s has in
+    let rest = ask_down world v under.part under.below (flipped it back) parts.1 kind made.1 under.has in
     record {
       part = rest.part;
       below = rest.below;
       from_back = rest.from_back;
-      down = ap (option_and_then (λ (below : Lane). lane_down world v below (flipped it back))) step.down ∙ rest.down;
+      down = ap (option_and_then (λ (below : Lane). lane_down world v below (flipped it back))) under.down ∙ rest.down;
       served = rest.served;
-      of_part = λ t x is. rest.of_part (part_from (source_of it t) t) x (step.of_part t x is);
+      of_part = λ t x is. rest.of_part (part_from (source_of it t) t) x (under.of_part t x is);
     }
 ask_down world (both word v u) side ask back known kind made has = absurd (cc)

@@ -1,5 +1,5 @@
 -- Items that are added: where they pass, the rows that they mean are they themselves, or have their parts exchanged.
-use Rattle.std.proofs.Common.{◌≡◌, true, List, [], ◌∷◌, ◌++◌, Option, Some, None, refl, sym, ap, ◌∙◌, Bool, false, cond, ◌&&◌}
+use Rattle.std.proofs.Common.{◌≡◌, true, List, [], ◌∷◌, ◌++◌, Option, Some, None, refl, sym, ap, ◌∙◌, Bool, false, cond}
 use Rattle.std.specs.Prelude.{is_some, not, option_to_list, if◌then◌else◌}
 use Rattle.std.specs.List.{list_all}
 use Rattle.std.proofs.lemmas.Option.{same_Some, cond_some, option_and_then_some}
@@ -12,7 +12,8 @@ use Rattle.machine.specs.Views.{View, base, both, over, lift}
 use Rattle.view_laws.proofs.LiftTable.{twice_swapped}
 use Rattle.view_laws.proofs.ListLemmas.{both_true}
 use Rattle.view_steps.specs.KnownViews.{is_known_view}
-use Rattle.view_steps.proofs.KnownLemmas.{exchanged, exchanges, is_lifted, known_over, step_swaps}
+use Rattle.view_steps.proofs.KnownLemmas.{known_over}
+use Rattle.view_steps.proofs.SpotTable.{exchanged, exchanges, is_lifted, step_swaps}
 
 -- parts that were exchanged, exchanged again where a step says so
 exchanged_twice : (swaps swapped_below : Bool) (item : Item) → exchanged swapped_below (exchanged swaps item) ≡ exchanged (cond swaps (not swapped_below) swapped_below) item
@@ -48,8 +49,3 @@ rows_same v known straight (item ∷ items) h =
     let here = both_true (is_some (lift v item)) (list_all (λ item. is_some (lift v item)) items) h in
     let e : lift v item ≡ Some item = lifts_to v known straight item (lift v item) refl here.0 in
     ap (λ o. option_to_list o ++ rows_for v items) e ∙ ap (λ rest. item ∷ rest) (rows_same v known straight items here.1)
-
--- the test of one item, as that of a list
-pub one_test : (v : View) (item : Item) (test : Bool) → test ≡ is_some (lift v item) → test ≡ list_all (λ item. is_some (lift v item)) (item ∷ [])
-one_test v item true e = ap (λ b. b && true) e
-one_test v item false e = ap (λ b. b && true) e

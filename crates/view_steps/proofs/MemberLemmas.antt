@@ -1,9 +1,7 @@
--- What stands in a list that is turned round, or is a part of another, stands in that one.
+-- What stands in a part of a list stands in that list.
 use Rattle.std.proofs.Common.{◌≡◌, ℕ, zero, suc, Bool, true, false, cond, List, [], ◌∷◌, refl, sym, subst}
 use Rattle.std.specs.Prelude.{filter, slice_get, Some}
 use Rattle.std.proofs.lemmas.Option.{same_Some}
-use Rattle.view_laws.specs.Lanes.{turned_if}
-use Rattle.view_steps.proofs.TurnLemmas.{reverse_at}
 
 -- an element of a list
 abbrev pub StandsIn : {X : Type 0} → List X → X → Type 0
@@ -20,10 +18,6 @@ in_filter p (y ∷ xs) x i is = by (in_filter p xs x) (p y) i is
     by rest true zero e = (zero, e)
     by rest true (suc j) e = in_longer y xs x (rest j e)
     by rest false j e = in_longer y xs x (rest j e)
-
-pub in_turned : {X : Type 0} (t : Bool) (xs : List X) (x : X) (i : ℕ) → slice_get (turned_if t xs) i ≡ Some x → StandsIn xs x
-in_turned true xs x i is = let at = reverse_at xs i x is in (at.0, at.1)
-in_turned false xs x i is = (i, is)
 
 -- what stands in a part passes its test, and what passes stands in it
 pub passes_filter : {X : Type 0} (p : X → Bool) (xs : List X) (x : X) (i : ℕ) → slice_get (filter p xs) i ≡ Some x → p x ≡ true

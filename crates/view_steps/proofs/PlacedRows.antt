@@ -1,23 +1,26 @@
 -- Rows that come: how many there are then, and where they stand.
-use Rattle.std.proofs.Common.{◌≡◌, ◌+◌, ◌≤◌, Bool, true, false, cond, ◌&&◌, ◌||◌, List, [], ◌∷◌, length, map, refl, ap, sym, ◌∙◌, subst, arith, ℕ, suc, ◌++◌, take, drop, append_assoc, length-append}
-use Rattle.std.specs.Prelude.{Some, None, find, is_some, insert}
-use Rattle.std.specs.List.{IsDistinct, AllByRecursion, remove_range}
-use Rattle.std.proofs.lemmas.List.{take-append-drop, length-take-le, take_at, drop_at, append-nil}
+use Rattle.std.proofs.Common.{◌≡◌, ◌+◌, ◌≤◌, Bool, true, false, cond, ◌&&◌, ◌||◌, List, [], ◌∷◌, length, map, refl, ap, sym, ◌∙◌, subst, arith, ◌++◌, append_assoc}
+use Rattle.std.specs.Prelude.{Some, None, find, is_some}
+use Rattle.std.specs.List.{IsDistinct, AllByRecursion}
+use Rattle.std.proofs.lemmas.List.{append-nil}
 use Rattle.elem.specs.declared.elements.Elem.{Elem}
 use Rattle.elem.specs.Elements.{same}
 use Rattle.vocabulary.specs.declared.items.Item.{Item}
 use Rattle.vocabulary.specs.declared.kinds.Kind.{Kind}
-use Rattle.vocabulary.specs.declared.edits.Spot.TheVariants.{Own, Before}
-use Rattle.vocabulary.specs.declared.kinds.Kind.TheVariants.{ArrayList, LinkedHashSet, TreeSet, TreeSetReverse, TreeSetLength, LinkedHashMap, TreeMap, TreeMapReverse, TreeMapLength, HashBiMap}
+use Rattle.vocabulary.specs.declared.edits.Spot.TheVariants.{Own}
+use Rattle.vocabulary.specs.declared.orders.Order.{Order}
+use Rattle.vocabulary.specs.declared.shapes.Shape.{Shape}
 use Rattle.machine.specs.Placing.{follows, placed, precedes, replaces, settled}
 use Rattle.machine.specs.Edits.{coming, placed_all}
 use Rattle.vocabulary.specs.Items.{key_of, second_of}
 use Rattle.vocabulary.specs.Kinds.{order_of_kind, shape_of_kind}
 use Rattle.vocabulary.specs.Known.{is_known_kind}
 use Rattle.vocabulary.specs.Orders.{before}
-use Rattle.vocabulary.specs.Shapes.{is_keyed, is_sorted}
+use Rattle.vocabulary.specs.Shapes.{is_keyed, is_list, is_sorted}
 use Rattle.view_steps.proofs.KindLemmas.{no_follower, replaces_by_key}
-use Rattle.view_steps.proofs.ListLemmas.{and-false, or-false}
+use Rattle.view_steps.proofs.KindTable.{kind_shape, precedes_by_key}
+use Rattle.view_steps.proofs.KnownShapes.{list_unkeyed, list_unsorted, sorted_keyed}
+use Rattle.view_steps.proofs.ListLemmas.{and-false, never, or-false}
 
 -- as many rows, or one more
 pub record IsUpToOneMore (rows more : List Item) : Type 0 where
@@ -114,73 +117,38 @@ unkeyed kind known (row ∷ rows) new list =
     ]
 
 -- where a row of a known kind comes is told by its key alone
-by_key : (is comes less : Bool) (first second third : List Item) → cond is first (cond (comes || (is && less)) second third) ≡ cond is first (cond comes second third)
-by_key true comes less first second third = refl
-by_key false comes less first second third = ap (λ b. cond b second third) (or-false comes)
+by_key : (keyed sorted is comes less : Bool) → (sorted ≡ true → keyed ≡ true) → (first second third : List Item) → cond (keyed && is) first (cond (sorted && (comes || (is && less))) second third) ≡ cond (keyed && is) first (cond (sorted && comes) second third)
+by_key keyed false is comes less has first second third = refl
+by_key true true true comes less has first second third = refl
+by_key true true false comes less has first second third = ap (λ b. cond b second third) (or-false comes)
+by_key false true is comes less has first second third = absurd (never false refl (has refl))
 
 abbrev pub by_keys : Kind → Item → List Item → Item → List Item
 by_keys kind row rows new =
     cond (is_keyed (shape_of_kind kind) && same (key_of new) (key_of row)) (settled new row ∷ rows) (cond (is_sorted (shape_of_kind kind) && before (order_of_kind kind) (key_of new) (key_of row)) (new ∷ row ∷ rows) (row ∷ placed kind rows new))
 
-sorted_by_key : (kind : Kind) (row : Item) (rows : List Item) (new : Item)
-    → cond (same (key_of new) (key_of row)) (settled new row ∷ rows)
-    (cond (before (order_of_kind kind) (key_of new) (key_of row) || (same (key_of new) (key_of row) && before (order_of_kind kind) (second_of new) (second_of row))) (new ∷ row ∷ rows) (row ∷ placed kind rows new))
-    ≡ cond (same (key_of new) (key_of row)) (settled new row ∷ rows) (cond (before (order_of_kind kind) (key_of new) (key_of row)) (new ∷ row ∷ rows) (row ∷ placed kind rows new))
-sorted_by_key kind row rows new =
-    by_key (same (key_of new) (key_of row)) (before (order_of_kind kind) (key_of new) (key_of row)) (before (order_of_kind kind) (second_of new) (second_of row)) (settled new row ∷ rows) (new ∷ row ∷ rows) (row ∷ placed kind rows new)
-
 pub placed_by_key : (kind : Kind) → is_known_kind kind ≡ true → (row : Item) (rows : List Item) (new : Item) → placed kind (row ∷ rows) new ≡ by_keys kind row rows new
-placed_by_key ArrayList known row rows new = refl
-placed_by_key LinkedHashSet known row rows new = refl
-placed_by_key TreeSet known row rows new = sorted_by_key TreeSet row rows new
-placed_by_key TreeSetReverse known row rows new = sorted_by_key TreeSetReverse row rows new
-placed_by_key TreeSetLength known row rows new = sorted_by_key TreeSetLength row rows new
-placed_by_key LinkedHashMap known row rows new = refl
-placed_by_key TreeMap known row rows new = sorted_by_key TreeMap row rows new
-placed_by_key TreeMapReverse known row rows new = sorted_by_key TreeMapReverse row rows new
-placed_by_key TreeMapLength known row rows new = sorted_by_key TreeMapLength row rows new
-placed_by_key HashBiMap known row rows new = refl
-placed_by_key _ known row rows new = absurd (cc)
+placed_by_key kind known row rows new =
+    let of : Shape = shape_of_kind kind in
+    let order : Order = order_of_kind kind in
+    (λ i. cond (replaces_by_key kind known new row i) (settled new row ∷ rows)
+    (cond (precedes_by_key kind known new row i) (new ∷ row ∷ rows) (cond (no_follower kind known new row rows i) (row ∷ new ∷ rows) (row ∷ placed kind rows new))))
+    ∙ by_key (is_keyed of) (is_sorted of) (same (key_of new) (key_of row)) (before order (key_of new) (key_of row)) (before order (second_of new) (second_of row)) (sorted_keyed of (kind_shape kind known))
+    (settled new row ∷ rows) (new ∷ row ∷ rows) (row ∷ placed kind rows new)
 
 -- ---- rows that come to a list
 
-pub placed-last : (rows : List Item) (item : Item) → placed ArrayList rows item ≡ rows ++ item ∷ []
-placed-last [] item = refl
-placed-last (row ∷ rows) item = ap (λ (rest : List Item). row ∷ rest) (placed-last rows item)
+pub placed-last : (kind : Kind) → is_known_kind kind ≡ true → is_list (shape_of_kind kind) ≡ true → (rows : List Item) (item : Item) → placed kind rows item ≡ rows ++ item ∷ []
+placed-last kind known list [] item = refl
+placed-last kind known list (row ∷ rows) item =
+    let of : Shape = shape_of_kind kind in
+    placed_by_key kind known row rows item
+    ∙ (λ i. cond (list_unkeyed of list i && same (key_of item) (key_of row)) (settled item row ∷ rows)
+    (cond (list_unsorted of list i && before (order_of_kind kind) (key_of item) (key_of row)) (item ∷ row ∷ rows) (row ∷ placed kind rows item)))
+    ∙ ap (λ (rest : List Item). row ∷ rest) (placed-last kind known list rows item)
 
--- rows that came to a list stand together at the index of their spot
-pub record Stands (i : ℕ) (rows new : List Item) (count : ℕ) : Type 0 where
-  pub middle : List Item
-  pub counted : length middle ≡ count
-  pub whole : new ≡ take i rows ++ (middle ++ drop i rows)
-
-pub own_all : (rows added : List Item) → placed_all ArrayList rows (coming Own added) ≡ rows ++ added
-own_all rows [] = sym (append-nil rows)
-own_all rows (item ∷ added) = ap (λ (now : List Item). placed_all ArrayList now (coming Own added)) (placed-last rows item) ∙ own_all (rows ++ item ∷ []) added ∙ append_assoc rows (item ∷ []) added
-
-pub before_all : (i : ℕ) (rows added : List Item) → i ≤ length rows → Stands i rows (placed_all ArrayList rows (coming (Before i) added)) (length added)
-before_all i rows [] h = record { middle = []; counted = refl; whole = sym (take-append-drop i rows) }
-before_all i rows (item ∷ added) h =
-    let long : length (take i rows) ≡ i = length-take-le i rows h in
-    let more : i ≤ length (insert rows i item) = omega (arith, length-append (take i rows) (item ∷ drop i rows)) in
-    let s : Stands i (insert rows i item) (placed_all ArrayList (insert rows i item) (coming (Before i) added)) (length added) = before_all i (insert rows i item) added more in
-    let front : take i (insert rows i item) ≡ take i rows = take_at (take i rows) (item ∷ drop i rows) i long in
-    let rest : drop i (insert rows i item) ≡ item ∷ drop i rows = drop_at (take i rows) (item ∷ drop i rows) i long in
-    record {
-      middle = s.middle ++ item ∷ [];
-      counted = (let e : length (s.middle ++ item ∷ []) ≡ suc (length added) = omega (arith, length-append s.middle (item ∷ []), s.counted) in e);
-      whole = s.whole ∙ (λ j. front j ++ (s.middle ++ rest j)) ∙ ap (λ (l : List Item). take i rows ++ l) (sym (append_assoc s.middle (item ∷ []) (drop i rows)));
-    }
-
-pub more_rows : (i : ℕ) (rows new : List Item) (count : ℕ) → Stands i rows new count → length new ≡ length rows + count
-more_rows i rows new count s =
-    omega (arith, ap length s.whole, length-append (take i rows) (s.middle ++ drop i rows), length-append s.middle (drop i rows), length-append (take i rows) (drop i rows), ap length (take-append-drop i rows), s.counted)
-
--- the rows that came, and no others, go again
-pub taken_back : (i to : ℕ) (rows new : List Item) (count : ℕ) → i ≤ length rows → Stands i rows new count → to ≡ i + count → remove_range new i to ≡ rows
-taken_back i to rows new count h s e =
-    let long : length (take i rows) ≡ i = length-take-le i rows h in
-    let front : take i new ≡ take i rows = ap (take i) s.whole ∙ take_at (take i rows) (s.middle ++ drop i rows) i long in
-    let far : length (take i rows ++ s.middle) ≡ to = omega (arith, length-append (take i rows) s.middle, s.counted) in
-    let rest : drop to new ≡ drop i rows = ap (drop to) (s.whole ∙ sym (append_assoc (take i rows) s.middle (drop i rows))) ∙ drop_at (take i rows ++ s.middle) (drop i rows) to far in
-    (λ j. front j ++ rest j) ∙ take-append-drop i rows
+pub own_all : (kind : Kind) → is_known_kind kind ≡ true → is_list (shape_of_kind kind) ≡ true → (rows added : List Item) → placed_all kind rows (coming Own added) ≡ rows ++ added
+own_all kind known list rows [] = sym (append-nil rows)
+own_all kind known list rows (item ∷ added) =
+    ap (λ (now : List Item). placed_all kind now (coming Own added)) (placed-last kind known list rows item)
+    ∙ own_all kind known list (rows ++ item ∷ []) added ∙ append_assoc rows (item ∷ []) added

@@ -5,11 +5,10 @@ use Rattle.std.specs.List.{list_any, flat_map}
 use Rattle.std.proofs.lemmas.Bool.Decides.{nat_tests}
 use Rattle.std.proofs.lemmas.List.Folds.{list_any-append}
 use Rattle.std.proofs.lemmas.List.Sorted.{list_any-IsPermutation, IsPermutation-reverse}
-use Rattle.std.proofs.lemmas.Option.{same_Some}
 use Rattle.vocabulary.specs.declared.items.Item.{Item}
 use Rattle.view_laws.specs.declared.places.Found.{Found}
 use Rattle.vocabulary.specs.declared.step_table.Family.{Family}
-use Rattle.vocabulary.specs.declared.step_table.Family.TheVariants.{Same, Changed, Turned, Keyed, Hidden, Cut, Grouped, Run, Pieces}
+use Rattle.vocabulary.specs.declared.step_table.Family.TheVariants.{Same, Changed, Turned, Hidden, Cut}
 use Rattle.vocabulary.specs.declared.steps.Step.{Step}
 use Rattle.machine.specs.CallEdits.{is_hit, all_hits}
 use Rattle.machine.specs.Edits.{edited, goes, removing, with_rows, without_rows}
@@ -24,7 +23,8 @@ use Rattle.machine.specs.Views.{View, base_under, candidates}
 use Rattle.machine.specs.Candidates.{Candidate, of_rows, changed, hidden, cut}
 use Rattle.view_steps.specs.Founds.{found_in_family}
 use Rattle.vocabulary.specs.Steps.{passes}
-use Rattle.view_steps.proofs.KnownLemmas.{is_plain, known_base}
+use Rattle.view_steps.proofs.FamilyTable.{is_plain}
+use Rattle.view_steps.proofs.KnownLemmas.{known_base}
 use Rattle.view_steps.proofs.RowLemmas.{row_law}
 use Rattle.view_steps.proofs.EditedRows.{edited_removing}
 use Rattle.view_steps.proofs.ListLemmas.{and-false, and-true, or-false}
@@ -162,23 +162,4 @@ found_step Cut plain step f row =
       | true ↦ elim (passes step (f.item row)) as (λ b. cond b (Some (found_row_by (form_over Cut step f) row)) None ≡ cond (not b) None (Some (found_in_family Cut step (found_row_by f row)))) [ true ↦ refl | false ↦ refl ]
       | false ↦ refl
     ]
-found_step Keyed plain step f row = absurd (cc)
-found_step Grouped plain step f row = absurd (cc)
-found_step Run plain step f row = absurd (cc)
-found_step Pieces plain step f row = absurd (cc)
-
--- a row that a form leaves out is not hit
-pub hit_none : (p : Item → Bool) (f : RowForm) (row : Item) → found_of_row f row ≡ None → is_row_hit p f row ≡ false
-hit_none p f row none = by (f.takes row) none
-  where
-    by : (t : Bool) → cond t (Some (found_row_by f row)) None ≡ None → ((t && f.sees row) && p (f.item row)) ≡ false
-    by true h = absurd (cc)
-    by false h = refl
-
--- and another one is where it is seen and its item passes
-pub hit_some : (p : Item → Bool) (f : RowForm) (row : Item) (d : Found) → found_of_row f row ≡ Some d → is_row_hit p f row ≡ (d.seen && p d.item)
-hit_some p f row d some = by (f.takes row) some
-  where
-    by : (t : Bool) → cond t (Some (found_row_by f row)) None ≡ Some d → ((t && f.sees row) && p (f.item row)) ≡ (d.seen && p d.item)
-    by true h = ap (λ (e : Found). e.seen && p e.item) (same_Some (found_row_by f row) d h)
-    by false h = absurd (cc)
+found_step _ plain step f row = absurd (cc)

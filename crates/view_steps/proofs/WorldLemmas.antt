@@ -1,9 +1,8 @@
 -- Worlds of which one base changes, or to which another comes.
-use Rattle.std.proofs.Common.{◌≡◌, ℕ, ◌<◌, [], ◌∷◌, ◌++◌, length, get_or, set, ap, sym, ◌∙◌, subst, inl, inr, arith, zero, suc}
+use Rattle.std.proofs.Common.{◌≡◌, ℕ, ◌<◌, [], ◌∷◌, ◌++◌, length, get_or, set, ap, sym, ◌∙◌, inl, inr, arith, zero, suc}
 use Rattle.std.proofs.lemmas.Bool.{cases_eq}
 use Rattle.std.proofs.lemmas.List.{get_or_append_left, get_or-set_same, get_or-set_other}
-use Rattle.vocabulary.specs.declared.kinds.Kind.TheVariants.{LinkedHashMap}
-use Rattle.machine.specs.Bases.{Base, World, base_at, empty_base}
+use Rattle.machine.specs.Bases.{Base, World, base_at}
 
 -- a base that was read is the base of its number
 pub read_at : (world : World) (b : ℕ) (it : Base) → b < length world → it ≡ get_or world b it → base_at world b ≡ it
@@ -13,30 +12,15 @@ read_at (first ∷ world) (suc b) it lt is = read_at world b it (omega arith) is
 
 -- a world with one more base has the others as they were
 pub more_at : (world : World) (it : Base) (b : ℕ) → b < length world → base_at (world ++ it ∷ []) b ≡ base_at world b
-more_at world it b lt = get_or_append_left world (it ∷ []) (empty_base LinkedHashMap) b lt
-
--- what holds of each base, and of one more
-pub all_more : (P : Base → Type 0) (world : World) (it : Base) → ((b : ℕ) → P (base_at world b)) → P it → (b : ℕ) → P (base_at (world ++ it ∷ []) b)
-all_more P [] it all this zero = this
-all_more P [] it all this (suc b) = all b
-all_more P (first ∷ world) it all this zero = all zero
-all_more P (first ∷ world) it all this (suc b) = all_more P world it (λ k. all (suc k)) this b
+more_at world it b lt = get_or_append_left world (it ∷ []) _ b lt
 
 -- a world in which one base changed has the others as they were
 pub written_at : (world : World) (b : ℕ) (it : Base) → b < length world → base_at (set world b it) b ≡ it
-written_at world b it lt = get_or-set_same world b it (empty_base LinkedHashMap) lt
-
--- what holds of each base, and of what one of them became
-pub all_written : (P : Base → Type 0) (world : World) (b : ℕ) (it : Base) → b < length world → ((k : ℕ) → P (base_at world k)) → P it → (k : ℕ) → P (base_at (set world b it) k)
-all_written P world b it lt all this k =
-    elim (cases_eq k b) [
-      | inl same ↦ subst P (sym (ap (base_at (set world b it)) same ∙ written_at world b it lt)) this
-      | inr other ↦ subst P (sym (get_or-set_other world b k it (empty_base LinkedHashMap) other)) (all k)
-    ]
+written_at world b it lt = get_or-set_same world b it _ lt
 
 pub written_kind : (world : World) (b : ℕ) (it : Base) → b < length world → it.kind ≡ (base_at world b).kind → (k : ℕ) → (base_at (set world b it) k).kind ≡ (base_at world k).kind
 written_kind world b it lt same k =
     elim (cases_eq k b) [
       | inl here ↦ ap (λ (x : Base). x.kind) (ap (base_at (set world b it)) here ∙ written_at world b it lt) ∙ same ∙ ap (λ (n : ℕ). (base_at world n).kind) (sym here)
-      | inr other ↦ ap (λ (x : Base). x.kind) (get_or-set_other world b k it (empty_base LinkedHashMap) other)
+      | inr other ↦ ap (λ (x : Base). x.kind) (get_or-set_other world b k it _ other)
     ]
