@@ -4,7 +4,7 @@ use Rattle.vocabulary.specs.declared.calls.Call.{Call}
 use Rattle.vocabulary.specs.declared.calls.Call.TheVariants as call
 use Rattle.vocabulary.specs.declared.calls.OnElement.TheVariants.{RemoveGroup, RemoveValues}
 use Rattle.vocabulary.specs.declared.calls.OnOther.{OnOther}
-use Rattle.vocabulary.specs.declared.calls.OnOther.TheVariants.{ContainsAll}
+use Rattle.vocabulary.specs.declared.calls.OnOther.TheVariants.{ContainsAll, Equals}
 use Rattle.vocabulary.specs.declared.calls.OnPair.TheVariants.{Put, ForcePut}
 use Rattle.vocabulary.specs.declared.calls.OnValues.{OnValues}
 use Rattle.vocabulary.specs.declared.shapes.Shape.{Shape}
@@ -34,9 +34,10 @@ gathers of other = false
 abbrev pub wants_memory : World → View → Call → Answered → Bool
 wants_memory world v call done = adds_rows world done || gathers (shape_at world v) call
 
--- whether a call with another view may: one that adds, removes or compares, on a view that allows it
+-- whether a call with another view may: one that adds or removes, on a view that allows it
 abbrev pub wants_memory_with : World → View → OnOther → Bool
 wants_memory_with world v ContainsAll = false
+wants_memory_with world v Equals = false
 wants_memory_with world v word = not (lacks (flags_at world v) (needs_with word))
 
 -- and a call with a key and another view

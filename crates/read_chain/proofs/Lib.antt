@@ -11,3 +11,4 @@ pub mod KeyPlaceLemmas
 pub mod FirstRows
 pub mod KeptItems
 pub mod ListLookUps
+pub mod EqualLemmas

@@ -102,7 +102,7 @@ index_stands world v i known by_row tell made h lt =
     (places_of_rows world (spots_in world) v by_row tell
     ∙ ap (λ (ss : List RowSpot). turned_if turns (map place_of ss)) (all_taken (form_of v).takes spots it.rows (tell (base_under v)).as_many takes ∙ are))
     ∙ in_turn turns it.rows i lt
-    ∙ ap (λ (k : ℕ). Some (index_place k)) (sym (item_at world v known made h (length it.rows) i lt))
+    ∙ ap (λ (k : ℕ). Some (index_place k)) (sym (item_at v (length it.rows) i lt))
 
 -- ---- items
 

@@ -30,7 +30,7 @@ and-turned true false = refl
 and-turned false true = refl
 and-turned false false = refl
 
-passing_seen : (p : Item → Bool) (ds : List Found) → filter p (seen_items ds) ≡ seen_items (filter (λ (d : Found). p d.item) ds)
+pub passing_seen : (p : Item → Bool) (ds : List Found) → filter p (seen_items ds) ≡ seen_items (filter (λ (d : Found). p d.item) ds)
 passing_seen p ds =
     filter-map p item_there (filter is_seen_there ds)
     ∙ ap (map item_there) (filter-filter (λ (d : Found). p d.item) is_seen_there ds

@@ -115,7 +115,7 @@ each_of_part First x = refl
 each_of_part Second x = refl
 
 -- what has it, as the course has that
-of_part_along : (world : World) (v : View) (side : Side) (x : Elem) (course : Course) → IsLookUp world v side x course
+pub of_part_along : (world : World) (v : View) (side : Side) (x : Elem) (course : Course) → IsLookUp world v side x course
     → map (λ (s : RowSpot). show world (spots_in world) v (place_of s)) (spots_along world course) ≡ map Some (filter (λ (d : Found). has_part side x d.item) (map found_in (candidates world v)))
 of_part_along world v side x course it =
     sym (map-map (show world (spots_in world) v) place_of (spots_along world course))

@@ -4,6 +4,7 @@
 //! asks the base once.
 #![tactic(auto)]
 
+mod comparing;
 mod finding;
 mod indexes;
 mod key_places;
@@ -16,6 +17,7 @@ mod reads;
 mod seats;
 mod walks;
 
+pub use comparing::equals;
 pub use finding::{ItemTest, find, find_place};
 pub use indexes::{gap_index, item_index, place_of_item};
 pub use key_places::{place_and_value, place_of};

@@ -88,6 +88,7 @@ is_known_other other.AddAll = true
 is_known_other other.RemoveAll = true
 is_known_other other.RetainAll = true
 is_known_other other.PutAll = true
+is_known_other other.Equals = true
 is_known_other word = false
 
 -- a call without its arguments

@@ -104,5 +104,6 @@ fn is_known_other(word: OnOther) -> bool
             | OnOther::RemoveAll
             | OnOther::RetainAll
             | OnOther::PutAll
+            | OnOther::Equals
     )
 }

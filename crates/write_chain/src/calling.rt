@@ -23,7 +23,7 @@ use crate::putting::{add, add_at, force_put, put, set_at};
 use crate::removing::{remove_at, remove_item, remove_key};
 use base_store::{AnyRef, Store};
 use elem::{Elem, Steps};
-use read_chain::{contains_all, read};
+use read_chain::{contains_all, equals, read};
 use std::sync::ledger::Ledger;
 use vocabulary::{
     Answer, Ask, Call, Item, OnElement, OnIndex, OnIndexed, OnOther, OnPair, Refusal, lacks,
@@ -267,6 +267,7 @@ fn carry_out_with<L: Ledger>(
         OnOther::RemoveAll => remove_others(store, n, other, false, steps),
         OnOther::RetainAll => remove_others(store, n, other, true, steps),
         OnOther::PutAll => put_all(store, n, other, steps),
+        OnOther::Equals => Ok(Answer::Truth(equals(store, n, other, steps))),
         _ => unreachable!(),
     }
 }
