@@ -9,12 +9,12 @@ use Rattle.machine.specs.Bases.{Base, base_at}
 use Rattle.machine.specs.Edits.{Coming, Edit, edited, is_structural, placed_all, without_rows}
 use Rattle.machine.specs.Iterators.{changes, is_passed_by}
 use Rattle.view_laws.specs.Spots.{TellAll}
-use Rattle.vocabulary.specs.declared.edits.Spot.TheVariants.{Instead, Own, Before}
+use Rattle.vocabulary.specs.declared.edits.Spot.TheVariants.{Instead, Own, Before, Swapped}
 use Rattle.vocabulary.specs.declared.kinds.Kind.{Kind}
 use Rattle.vocabulary.specs.Items.{key_of}
 use Rattle.vocabulary.specs.Kinds.{shape_of_kind}
 use Rattle.vocabulary.specs.Known.{is_known_kind}
-use Rattle.vocabulary.specs.Shapes.{is_keyed}
+use Rattle.vocabulary.specs.Shapes.{is_bimap, is_keyed}
 
 -- as many rows, and in a set or a map the same keys in the same order
 pub record SameSpots (before after : Base) : Type 0 where
@@ -46,11 +46,12 @@ StaleAfter = (before now : Stored) (seat : Seat) → IsLaterFor before now seat 
 
 -- ---- edits
 
--- only in a list a row takes the place of another by number
+-- only in a list a row takes the place of another by number, and only in a bimap it goes by its value
 abbrev pub IsSpotFor : Kind → Coming → Type 0
 IsSpotFor kind (Own, row) = Unit {0}
 IsSpotFor kind (Before i, row) = Unit {0}
 IsSpotFor kind (Instead i, row) = is_keyed (shape_of_kind kind) ≡ false
+IsSpotFor kind (Swapped, row) = is_bimap (shape_of_kind kind) ≡ true
 IsSpotFor kind other = ⊥
 
 -- whether an edit adds or removes rows of a base

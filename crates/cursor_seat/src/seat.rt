@@ -51,6 +51,13 @@ impl Seat {
         }
     }
 
+    /// The node of its view.
+    pub fn node(&self) -> AnyRef
+        ensures { result ≡ self.now.node }
+    {
+        self.node
+    }
+
     /// Whether a base of the view has changed under the seat.
     fn is_stale(&self, store: &Store) -> bool
         requires { Fits store.now self.now }

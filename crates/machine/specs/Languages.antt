@@ -16,7 +16,7 @@ whole = record { kinds = λ kind. true; words = λ action. true; iterators = tru
 
 -- the part whose code stands
 abbrev pub known : Language
-known = record { kinds = is_known_kind; words = is_known; iterators = false }
+known = record { kinds = is_known_kind; words = is_known; iterators = true }
 
 -- what passes a test, where there is something
 abbrev pub only_if : {X : Type 0} → (X → Bool) → Option X → Option X

@@ -15,13 +15,17 @@ use Rattle.script_text.specs.declared.lines.Part.{Part as Placed}
 use Rattle.script_text.specs.declared.lines.Slice.{Slice}
 use Rattle.script_text.specs.Trees.{Expression, Tree, expr_view, in_pieces, line_view, map_expression, map_tree, part_of, Call as Word}
 use Rattle.script_text.specs.Trees as tree
-use Rattle.session.specs.Bounds.{AsksAtMost, most_for, most_for_words, most_in, most_of_call}
+use Rattle.session.specs.Bounds.{AsksAtMost, most_for, most_for_words, most_in, most_of_call, most_of_iterator}
 use Rattle.session.specs.Coming.{seen_as}
-use Rattle.session.specs.Environment.{bound_at, named}
+use Rattle.session.specs.declared.bound.Bound.TheVariants as held
+use Rattle.session.specs.Environment.{Entries, bound_at, iterator_at, named}
+use Rattle.cursor_seat.specs.declared.seat.Seat.{Seat}
+use Rattle.machine.specs.Iterating.{iterator_word}
+use Rattle.vocabulary.specs.declared.lines.OnIterator.{OnIterator}
 use Rattle.session.specs.Following.{parts_in, target_in}
 use Rattle.session.specs.Targets.{reach}
 use Rattle.session.proofs.NameLemmas.{named_bound, same_text}
-use Rattle.session.proofs.TextLemmas.{words_alike as typed_alike}
+use Rattle.session.proofs.TextLemmas.{iterator_alike, words_alike as typed_alike}
 use Rattle.vocabulary.specs.declared.calls.Call.{Call}
 use Rattle.vocabulary.specs.declared.lines.Fault.{Fault}
 use Rattle.vocabulary.specs.declared.lines.Purpose.TheVariants as purpose
@@ -69,16 +73,23 @@ call_bound world v call before after looked asked removed single forced =
 
 -- ---- the words behind a name
 
-pub words_bound : (s : Stored) (names : List (List ℕ × ℕ)) (name : List ℕ) (head : ℕ) (parts : List Part) → lookup (same_text name) names ≡ Some head
+pub words_bound : (s : Stored) (names : Entries) (name : List ℕ) (head : ℕ) (parts : List Part) → lookup (same_text name) names ≡ Some (held.View head)
     → most_for s.world (target_in s s.handles names purpose.Reply head parts) ≡ most_for_words (seen_as s (named s.nodes names)) (bound_to (named s.nodes names) name) parts
 words_bound s names name head parts found =
     ap (λ (o : Option Bound). most_for_words (seen_as s (named s.nodes names)) o parts) (sym (named_bound s.nodes names name ∙ ap (option_map (bound_at s.nodes)) found))
+
+-- a word of an iterator
+pub turn_bound : (s : Stored) (names : Entries) (name : List ℕ) (seat : Seat) (word : Option OnIterator) (parts : List Part) → lookup (same_text name) names ≡ Some (held.Iterator seat) → word ≡ iterator_word parts
+    → most_of_iterator s.world (iterator_at s.nodes seat) word ≡ most_for_words (seen_as s (named s.nodes names)) (bound_to (named s.nodes names) name) parts
+turn_bound s names name seat word parts found asks =
+    ap (most_of_iterator s.world (iterator_at s.nodes seat)) asks
+    ∙ ap (λ (o : Option Bound). most_for_words (seen_as s (named s.nodes names)) o parts) (sym (named_bound s.nodes names name ∙ ap (option_map (bound_at s.nodes)) found))
 
 -- ---- a line
 
 words_alike : (state : State) (line : List ℕ) (head : Option Bound) (cs : List (Word Slice)) → most_for_words state head (parts_in line (map part_of cs)) ≡ most_for_words state head (map (in_pieces line) cs)
 words_alike state line None cs = refl
-words_alike state line (Some (to_iterator it)) cs = refl
+words_alike state line (Some (to_iterator it)) cs = ap (most_of_iterator state.bases it) (iterator_alike line cs)
 words_alike state line (Some (to_view v)) cs = ap (λ (t : Result Typing Fault). most_for state.bases (reach state.bases state.handles v t)) (typed_alike line state.bases state.names purpose.Reply (shape_at state.bases v) cs)
 
 -- the bound of a line is that of the words behind its name

@@ -24,7 +24,9 @@ use Rattle.session.specs.declared.faults.ExecFault.{ExecFault}
 use Rattle.session.specs.declared.faults.ExecFault.TheVariants.{WriteFault, NoMemory}
 use Rattle.session.specs.Coming.{Came, seen_as}
 use Rattle.session.specs.Executing.{Does, Executed}
+use Rattle.session.specs.Later.{AreLater}
 use Rattle.session.specs.Replying.{Refuses, Said, Tells, Wrote}
+use Rattle.session.proofs.LaterLemmas.{same_bases}
 
 -- ---- a write through a known view, which has no sublists on its path
 
@@ -50,7 +52,7 @@ same_names before after (e ∷ names) = λ i. (e.0, same_bound before after e.1 
 abbrev pub with_bases : State → World → State
 with_bases state world = record { bases = world; names = state.names; handles = state.handles }
 
-written_known : (state : State) (v : View) (world : World) → is_known_view v ≡ true → with_bases state world ≡ written_through state v world
+pub written_known : (state : State) (v : View) (world : World) → is_known_view v ≡ true → with_bases state world ≡ written_through state v world
 written_known state v world h =
     ap (λ (names : Names). record { bases = world; names = names; handles = state.handles })
     (sym (ap (λ (numbers : List ℕ). in_names (refreshed numbers (root state.bases v) (root world v)) state.names) (no_sublists v h) ∙ same_names (root state.bases v) (root world v) state.names))
@@ -89,12 +91,13 @@ IsCalm before now = (n : ℕ) → ChangesUpTo n before → ChangesUpTo (n + 1) n
 
 module _ {r : Result (Unit {0}) ExecFault} {t u : Option (List ℕ)} {f g : ℕ} where
   -- a reply, and other bases
-  pub came_with : (s now : Stored) (world : World) (outcome : State → Outcome) (text : List ℕ) (memory : Bool) → now ≡ with_world s world → IsCalm s.world now.world
+  pub came_with : (s now : Stored) (world : World) (outcome : State → Outcome) (text : List ℕ) (memory : Bool) → now ≡ with_world s world → IsCalm s.world now.world → AreLater s.world now.world
       → ((names : Names) → (let o : Outcome = record { reply = Some text; after = with_bases (seen_as s names) world; memory = memory } in o) ≡ outcome (seen_as s names)) → Said r t u f g (text ++ 10 ∷ []) → Came r s now outcome t u f g
-  came_with s now world outcome text memory e calm is said = record {
+  came_with s now world outcome text memory e calm later is said = record {
     nodes = ap (λ (x : Stored). x.nodes) e;
     lasting = ap (λ (x : Stored). x.lasting) e;
     handles = ap (λ (x : Stored). x.handles) e;
+    later = later;
     executed = λ names. subst (λ (o : Outcome). Executed r (seen_as s names) (seen_as now names) o t u f g) (is names) (record {
       does = does_said r t u (seen_as s names) (seen_as now names) (with_bases (seen_as s names) world) text memory said.memory (ap (λ (x : Stored). seen_as x names) e) said.wrote;
       changes = calm;
@@ -105,7 +108,7 @@ module _ {r : Result (Unit {0}) ExecFault} {t u : Option (List ℕ)} {f g : ℕ}
 
   -- a reply that changes nothing, and before which memory may run out or may not
   pub came_unchanged : (s now : Stored) (outcome : State → Outcome) (text : List ℕ) (memory : Bool) → now ≡ s → ((names : Names) → (let o : Outcome = record { reply = Some text; after = seen_as s names; memory = memory } in o) ≡ outcome (seen_as s names)) → Said r t u f g (text ++ 10 ∷ []) → Came r s now outcome t u f g
-  came_unchanged s now outcome text memory e is said = came_with s now s.world outcome text memory e (λ n h. subst (λ (x : Stored). ChangesUpTo (n + 1) x.world) (sym e) (calm_on n s.world h)) is said
+  came_unchanged s now outcome text memory e is said = came_with s now s.world outcome text memory e (λ n h. subst (λ (x : Stored). ChangesUpTo (n + 1) x.world) (sym e) (calm_on n s.world h)) (same_bases s.world now.world (ap (λ (x : Stored). x.world) e)) is said
 
   pub came_said : (s now : Stored) (outcome : State → Outcome) (text : List ℕ) → now ≡ s → ((names : Names) → says (seen_as s names) text ≡ outcome (seen_as s names)) → Said r t u f g (text ++ 10 ∷ []) → Came r s now outcome t u f g
   came_said s now outcome text e is said = came_unchanged s now outcome text false e is said
@@ -116,6 +119,7 @@ came_no_memory s now outcome t f e wants = record {
   nodes = ap (λ (x : Stored). x.nodes) e;
   lasting = ap (λ (x : Stored). x.lasting) e;
   handles = ap (λ (x : Stored). x.handles) e;
+  later = same_bases s.world now.world (ap (λ (x : Stored). x.world) e);
   executed = λ names. record {
     does = (ap (λ (x : Stored). seen_as x names) e, stays t, wants names);
     changes = λ n h. subst (λ (x : Stored). ChangesUpTo (n + 1) x.world) (sym e) (calm_on n s.world h);
@@ -143,9 +147,9 @@ module _ {r : Result (Unit {0}) ExecFault} {t u : Option (List ℕ)} {f g : ℕ}
       came_unchanged s now outcome (name_of why) memory answers.0 (λ names. ap (told_of (seen_as s names) memory) (sym answers.1) ∙ is names) said
 
   -- what was said of what a call answered
-  pub came_told : (answer : Result Answer Refusal) (s now : Stored) (outcome : State → Outcome) (memory : Bool) (done : Answered) → Answers answer s now done → IsCalm s.world now.world → ((names : Names) → told_of (seen_as s names) memory done ≡ outcome (seen_as s names))
+  pub came_told : (answer : Result Answer Refusal) (s now : Stored) (outcome : State → Outcome) (memory : Bool) (done : Answered) → Answers answer s now done → IsCalm s.world now.world → AreLater s.world now.world → ((names : Names) → told_of (seen_as s names) memory done ≡ outcome (seen_as s names))
       → (answer ≡ Err refusal.NoMemory → memory ≡ true) → Tells answer r t u f g → Came r s now outcome t u f g
-  came_told (Ok answer) s now outcome memory (Ok done) answers calm is wants said =
-      came_with s now done.1 outcome (answer_text answer) memory answers.1 calm (λ names. ap (λ (a : Answer). let o : Outcome = record { reply = Some (answer_text a); after = with_bases (seen_as s names) done.1; memory = memory } in o) answers.0 ∙ is names) said
-  came_told (Ok answer) s now outcome memory (Err why) answers calm is wants said = absurd answers
-  came_told (Err why) s now outcome memory done answers calm is wants said = came_refused why s now outcome memory done answers is (λ e. wants (ap (λ (w : Refusal). Err w) e)) said
+  came_told (Ok answer) s now outcome memory (Ok done) answers calm later is wants said =
+      came_with s now done.1 outcome (answer_text answer) memory answers.1 calm later (λ names. ap (λ (a : Answer). let o : Outcome = record { reply = Some (answer_text a); after = with_bases (seen_as s names) done.1; memory = memory } in o) answers.0 ∙ is names) said
+  came_told (Ok answer) s now outcome memory (Err why) answers calm later is wants said = absurd answers
+  came_told (Err why) s now outcome memory done answers calm later is wants said = came_refused why s now outcome memory done answers is (λ e. wants (ap (λ (w : Refusal). Err w) e)) said

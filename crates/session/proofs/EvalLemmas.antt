@@ -1,18 +1,20 @@
 -- An expression that was followed to its end, and what was done there.
 use Rattle.std.proofs.Common.{◌≡◌, ℕ, List, [], ◌∷◌, ◌++◌, length, take, Option, None, Some, Result, Ok, Err, refl, sym, ◌∙◌, ap, subst}
-use Rattle.std.specs.Result.{IsOk, result_err}
+use Rattle.std.specs.Result.{IsOk}
 use Rattle.base_store.specs.Stored.{Stored, view_in, without_temporary}
 use Rattle.session.specs.declared.faults.ExecFault.{ExecFault}
 use Rattle.session.specs.declared.following.End.{End}
 use Rattle.session.specs.Coming.{Came, seen_as}
 use Rattle.session.specs.Executing.{Executed}
+use Rattle.session.specs.Later.{AreLater}
 use Rattle.session.specs.Following.{end_in}
-use Rattle.session.specs.Targets.{Target, concluded, leads, reach, stops}
+use Rattle.session.specs.Targets.{Target, concluded, leads, reach, shape_of, stops}
 use Rattle.session.specs.Replying.{Said}
 use Rattle.session.proofs.CallLemmas.{came_said}
 use Rattle.vocabulary.specs.declared.refusals.Refusal.{Refusal}
 use Rattle.vocabulary.specs.Refusals.{name_of}
 use Rattle.vocabulary.specs.declared.lines.Fault.{Fault}
+use Rattle.vocabulary.specs.declared.shapes.Shape.{Shape}
 use Rattle.machine.specs.Bases.{World}
 use Rattle.machine.specs.Calling.{unless_refused}
 use Rattle.machine.specs.Meanings.{shows}
@@ -28,13 +30,13 @@ take_whole [] = refl
 take_whole (x ∷ xs) = ap (λ ys. x ∷ ys) (take_whole xs)
 
 -- the fault of words is what they lead to
-pub fault_reached : (world : World) (number : ℕ) (view : View) (t : Result Typing Fault) (fault : Fault) → Some fault ≡ result_err t → reach world number view t ≡ Err fault
+pub fault_reached : (world : World) (number : ℕ) (view : View) (t : Result Typing Fault) (fault : Fault) → Err fault ≡ shape_of t → reach world number view t ≡ Err fault
 fault_reached world number view (Ok t) fault e = cc
 fault_reached world number view (Err why) fault e = let same : fault ≡ why = cc in ap (λ (x : Fault). Err x) (sym same)
 
-pub no_fault : (t : Result Typing Fault) → (let none : Option Fault = None in none) ≡ result_err t → IsOk t
-no_fault (Ok t) e = refl
-no_fault (Err why) e = cc
+pub no_fault : (t : Result Typing Fault) (of : Shape) → Ok of ≡ shape_of t → IsOk t
+no_fault (Ok t) of e = refl
+no_fault (Err why) of e = cc
 
 module _ {r : Result (Unit {0}) ExecFault} {t u : Option (List ℕ)} {f g : ℕ} where
   pub came_fault : (s : Stored) (led : Result Target Fault) (fault : Fault) → led ≡ Err fault → Said r t u f g (fault_text fault ++ 10 ∷ []) → Came r s s (λ state. concluded state led) t u f g
@@ -58,6 +60,7 @@ module _ {r : Result (Unit {0}) ExecFault} {t u : Option (List ℕ)} {f g : ℕ}
     nodes = ap (λ (x : Stored). x.nodes) dropped ∙ ap (λ (n : ℕ). take n done.nodes) h.lasting ∙ ap (take led.lasting) h.nodes ∙ ap (λ (x : Stored). x.nodes) front ∙ ap (λ (n : ℕ). take n s.nodes) (sym still) ∙ take_whole s.nodes;
     lasting = ap (λ (x : Stored). x.lasting) dropped ∙ h.lasting ∙ ap (λ (x : Stored). x.lasting) front;
     handles = ap (λ (x : Stored). x.handles) dropped ∙ h.handles ∙ ap (λ (x : Stored). x.handles) front;
+    later = subst (λ (w : World). AreLater w now.world) world (subst (AreLater led.world) (sym (ap (λ (x : Stored). x.world) dropped)) h.later);
     executed = λ names.
         subst (λ (after : State). Executed r (seen_as s names) after (concluded (seen_as s names) target) t u f g) (sym (after names))
         (subst (λ (it : Result Target Fault). Executed r (seen_as s names) (seen_as done names) (concluded (seen_as s names) it) t u f g) (sym reached)

@@ -26,7 +26,9 @@ use Rattle.session.proofs.EvalLemmas.{take_whole}
 use Rattle.session.specs.declared.following.End.TheVariants as end
 use Rattle.session.specs.declared.typing.Typed.{Typed}
 use Rattle.session.specs.declared.typing.Typed.TheVariants as typed
-use Rattle.session.specs.Environment.{NamesWithin, named}
+use Rattle.session.specs.declared.bound.Bound.{Bound as Held}
+use Rattle.session.specs.declared.bound.Bound.TheVariants as held
+use Rattle.session.specs.Environment.{Entries, NamesWithin, bound_at, named, node_under}
 use Rattle.session.specs.Following.{Followed, IsEnd, IsTyped, Stepped, Steps, a_step, asked, meaning_in, meant_in, parts_in, target_in}
 use Rattle.session.specs.Targets.{Target, leads, reach, stops, target, with_ending}
 use Rattle.machine.specs.Arguments.{of_parts, of_range}
@@ -35,7 +37,8 @@ use Rattle.machine.specs.Languages.{known}
 use Rattle.machine.specs.Making.{Asked, Made as Outcome, a_view, by, refused, step_refusal, unless}
 use Rattle.machine.specs.Meanings.{Ending, Meaning, ends, steps_to, typed_word}
 use Rattle.machine.specs.Parts.{Part, text_at}
-use Rattle.machine.specs.State.{to_view}
+use Rattle.cursor_seat.specs.Stands.{has_given}
+use Rattle.machine.specs.State.{to_iterator, to_view}
 use Rattle.machine.specs.StepArguments.{within}
 use Rattle.machine.specs.Typing.{Typing, before, go_on, is_last, typed_words}
 use Rattle.vocabulary.specs.declared.lines.Fault.{Fault}
@@ -173,16 +176,20 @@ over_is world view made (Ok _) next given e = absurd given
 
 -- ---- the words
 
--- names stand for what they stood for where only nodes were added
-pub named_more : (nodes more : List Made) (names : List (List ℕ × ℕ)) → NamesWithin (length nodes) names → named (nodes ++ more) names ≡ named nodes names
+-- a name stands for what it stood for where only nodes were added
+bound_more : (nodes more : List Made) (it : Held) → node_under it < length nodes → bound_at (nodes ++ more) it ≡ bound_at nodes it
+bound_more nodes more (held.View n) lt = ap to_view (view_at-append nodes more n lt)
+bound_more nodes more (held.Iterator seat) lt = ap (λ (v : View). to_iterator (record { view = v; seen = seat.seen; passed = seat.passed; given = has_given seat.stand })) (view_at-append nodes more seat.node lt)
+
+pub named_more : (nodes more : List Made) (names : Entries) → NamesWithin (length nodes) names → named (nodes ++ more) names ≡ named nodes names
 named_more nodes more [] h = refl
-named_more nodes more (e ∷ names) h = λ i. (e.0, to_view (view_at-append nodes more e.1 h.0 i)) ∷ named_more nodes more names h.1 i
+named_more nodes more (e ∷ names) h = λ i. (e.0, bound_more nodes more e.1 h.0 i) ∷ named_more nodes more names h.1 i
 
-pub within_wider : (names : List (List ℕ × ℕ)) (n m : ℕ) → n ≤ m → NamesWithin n names → NamesWithin m names
+pub within_wider : (names : Entries) (n m : ℕ) → n ≤ m → NamesWithin n names → NamesWithin m names
 within_wider [] n m le h = tt
-within_wider (e ∷ names) n m le h = let old : e.1 < n = h.0 in (omega (arith, old, le), within_wider names n m le h.1)
+within_wider (e ∷ names) n m le h = let old : node_under e.1 < n = h.0 in (omega (arith, old, le), within_wider names n m le h.1)
 
-module _ (names : List (List ℕ × ℕ)) (purpose : Purpose) (s : Stored) (number node : ℕ) (part : Part) (parts : List Part) where
+module _ (names : Entries) (purpose : Purpose) (s : Stored) (number node : ℕ) (part : Part) (parts : List Part) where
   abbrev on : Shape
   on = shape_at s.world (view_in s node)
 
@@ -236,14 +243,14 @@ pub target_ok : (world : World) (number : ℕ) (view : View) (t : Result Typing 
 target_ok world number view (Err fault) ok = cc
 target_ok world number view (Ok t) ok = ok
 
-pub followed_start : (names : List (List ℕ × ℕ)) (purpose : Purpose) (s : Stored) (head : ℕ) (parts : List Part) → head < length s.nodes → length s.nodes ≡ s.lasting → Followed names purpose s s head head parts parts
+pub followed_start : (names : Entries) (purpose : Purpose) (s : Stored) (head : ℕ) (parts : List Part) → head < length s.nodes → length s.nodes ≡ s.lasting → Followed names purpose s s head head parts parts
 followed_start names purpose s head parts lt still = record { world = refl; front = refl; within = omega arith; stands = lt; room = omega arith; number = s.handles; same = refl }
 
 -- the names stand for nodes that are there
-pub names_in : (names : List (List ℕ × ℕ)) (purpose : Purpose) (first s : Stored) (head node : ℕ) (all rest : List Part) → Followed names purpose first s head node all rest → NamesWithin first.lasting names → NamesWithin (length s.nodes) names
+pub names_in : (names : Entries) (purpose : Purpose) (first s : Stored) (head node : ℕ) (all rest : List Part) → Followed names purpose first s head node all rest → NamesWithin first.lasting names → NamesWithin (length s.nodes) names
 names_in names purpose first s head node all rest f within = within_wider names first.lasting (length s.nodes) (let same : s.lasting ≡ first.lasting = ap (λ (x : Stored). x.lasting) f.front in let le : s.lasting ≤ length s.nodes = f.within in omega (arith, same, le)) within
 
-module _ (names : List (List ℕ × ℕ)) (purpose : Purpose) (first s : Stored) (head node : ℕ) (all : List Part) (part : Part) (parts : List Part) (f : Followed names purpose first s head node all (part ∷ parts)) where
+module _ (names : Entries) (purpose : Purpose) (first s : Stored) (head node : ℕ) (all : List Part) (part : Part) (parts : List Part) (f : Followed names purpose first s head node all (part ∷ parts)) where
   -- what is left has no fault where all words have none
   pub left_ok : IsOk (typed_words known first.world (named first.nodes names) purpose (shape_at first.world (view_in first head)) all) → IsOk (target_in s f.number names purpose node (part ∷ parts))
   left_ok ok = subst (λ (x : Result Target Fault). IsOk x) f.same (target_ok first.world first.handles (view_in first head) (typed_words known first.world (named first.nodes names) purpose (shape_at first.world (view_in first head)) all) ok)
@@ -274,23 +281,23 @@ module _ (names : List (List ℕ × ℕ)) (purpose : Purpose) (first s : Stored)
 
 -- ---- a turn of the loop
 
-abbrev behind : List Placed → List Placed
+abbrev pub behind : List Placed → List Placed
 behind rest = take (length rest - 1) (drop 1 rest)
 
 -- a list that has an element is its first one and what is behind it
-first_behind : (rest : List Placed) (part : Placed) → 1 ≤ length rest → part ≡ get_or rest 0 part → rest ≡ part ∷ behind rest
+pub first_behind : (rest : List Placed) (part : Placed) → 1 ≤ length rest → part ≡ get_or rest 0 part → rest ≡ part ∷ behind rest
 first_behind [] part le e = absurd (omega arith)
 first_behind (p ∷ ps) part le e = let same : p ≡ part = sym e in λ i. same i ∷ all i
   where
     all : ps ≡ behind (p ∷ ps)
     all = sym (ap (λ (n : ℕ). take n ps) (let e : length (p ∷ ps) - 1 ≡ length ps = omega arith in e) ∙ take_whole ps)
 
-empty_is : (line : List ℕ) (ps : List Placed) → (length ps == 0) ≡ is_last (parts_in line ps)
+pub empty_is : (line : List ℕ) (ps : List Placed) → (length ps == 0) ≡ is_last (parts_in line ps)
 empty_is line [] = refl
 empty_is line (p ∷ ps) = grind (arith, nat_tests)
 
 -- what is known where a word was typed
-pub record IsAt (names : List (List ℕ × ℕ)) (purpose : Purpose) (first s : Stored) (head node : ℕ) (all : List Part) (line : List ℕ) (rest : List Placed) (part : Placed) (on : Shape) (r : Result Typed Fault) : Type 0 where
+pub record IsAt (names : Entries) (purpose : Purpose) (first s : Stored) (head node : ℕ) (all : List Part) (line : List ℕ) (rest : List Placed) (part : Placed) (on : Shape) (r : Result Typed Fault) : Type 0 where
   pub within : NamesWithin first.lasting names
   pub ok : IsOk (typed_words known first.world (named first.nodes names) purpose (shape_at first.world (view_in first head)) all)
   pub followed : Followed names purpose first s head node all (parts_in line rest)
@@ -300,7 +307,7 @@ pub record IsAt (names : List (List ℕ × ℕ)) (purpose : Purpose) (first s : 
   pub meant : meant_in s (text_at (part_in line part).args 0) r ≡ typed_word known s.world (named s.nodes names) purpose (length (behind rest) == 0) on (part_in line part)
   pub typed : IfOk r (λ it. IsTyped s on (text_at (part_in line part).args 0) it)
 
-module _ (names : List (List ℕ × ℕ)) (purpose : Purpose) (first s : Stored) (head node : ℕ) (all : List Part) (line : List ℕ) (rest : List Placed) (part : Placed) (on : Shape) (r : Result Typed Fault) (at : IsAt names purpose first s head node all line rest part on r) where
+module _ (names : Entries) (purpose : Purpose) (first s : Stored) (head node : ℕ) (all : List Part) (line : List ℕ) (rest : List Placed) (part : Placed) (on : Shape) (r : Result Typed Fault) (at : IsAt names purpose first s head node all line rest part on r) where
   -- the words lead to a refusal, and nothing changed
   pub record IsRefused (now : Stored) (why : Refusal) : Type 0 where
     pub same : now ≡ s

@@ -158,7 +158,7 @@ shown_known world v h k made fit =
     items_known (shape_at world v) (shown world v)
     (shown_items world v h (subst (λ (it : Base). is_known_kind it.kind ≡ true) under k) made (subst (λ (it : Base). AreRowsOf it.kind it.rows) under fit))
 
-item_plain : (of : Shape) (item : Item) → is_known_item item ≡ true → text_in of item ≡ item_text item
+pub item_plain : (of : Shape) (item : Item) → is_known_item item ≡ true → text_in of item ≡ item_text item
 item_plain of (One x) h = refl
 item_plain of (Entry k v) h = refl
 item_plain of _ h = absurd (cc)

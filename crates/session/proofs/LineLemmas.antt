@@ -1,5 +1,6 @@
 -- What known words lead to from a view of a known shape is what their line says.
 use Rattle.std.proofs.Common.{IfOk, ◌≡◌, ℕ, suc, Bool, true, false, List, [], ◌∷◌, length, Option, None, Some, Result, Ok, Err, cond, refl, sym, ◌∙◌, ap, subst}
+use Rattle.std.specs.Result.{IsOk}
 use Rattle.vocabulary.specs.declared.calls.CallForm.{CallForm}
 use Rattle.vocabulary.specs.declared.calls.CallForm.TheVariants as call_form
 use Rattle.vocabulary.specs.declared.lines.Fault.{Fault}
@@ -26,14 +27,15 @@ use Rattle.machine.specs.Lines.{eval_on, eval_typed}
 use Rattle.machine.specs.Making.{Asked, Made, a_view, absent, refused}
 use Rattle.machine.specs.CallArguments.{call_asked}
 use Rattle.machine.specs.Meanings.{Ending, Meaning, acting, an_end, call_for, call_typed, call_with, calls, calls_for, calls_with, ends, fitting, if_fits, may_call, steps_to, typed_word, view_named}
-use Rattle.machine.specs.Naming.{let_ended, let_on, let_typed}
+use Rattle.machine.specs.Naming.{it_made, it_on, it_typed, let_ended, let_on, let_typed}
+use Rattle.machine.specs.Outcomes.{Outcome, faulted}
 use Rattle.machine.specs.Parts.{Part, text_at}
 use Rattle.machine.specs.State.{Names, State}
-use Rattle.machine.specs.Typing.{Typing, before, go_on, is_last, may_end, typed_end, typed_words}
+use Rattle.machine.specs.Typing.{Typing, before, go_on, is_last, iterates, may_end, typed_end, typed_words}
 use Rattle.machine.specs.Views.{View, shape_at}
 use Rattle.session.specs.Following.{a_step, asked}
 use Rattle.session.specs.KnownShapes.{is_known_shape}
-use Rattle.session.specs.Targets.{concluded, let_concluded, reach, target, with_ending}
+use Rattle.session.specs.Targets.{bound_concluded, concluded, it_concluded, iterator_fault, let_concluded, reach, shape_of, target, with_ending}
 use Rattle.session.proofs.KnownLemmas.{Known, given_known}
 use Rattle.session.proofs.TextLemmas.{known_meant, only_passes}
 
@@ -109,16 +111,20 @@ module _ (world : World) (names : Names) (for : Purpose) (last : Bool) (on : Sha
       by (Some (action.Call form)) e = ends_known (does (Some (action.Call form))) (call_does form (may_call for last))
       by (Some (action.Make word)) e = absurd (let no : false ≡ true = only_passes is_known _ (action.Make word) e in cc)
 
--- a word behind a new name is a step
-module _ (world : World) (names : Names) (last : Bool) (on : Shape) (h : is_known_shape on ≡ true) (part : Part) where
-  step_named : IfOk (typed_word known world names purpose.Name last on part) IsKnownStep
+-- a word where no call may stand is a step
+module _ (world : World) (names : Names) (for : Purpose) (calm : (last : Bool) → may_call for last ≡ false) (last : Bool) (on : Shape) (h : is_known_shape on ≡ true) (part : Part) where
+  no_call : (form : CallForm) (b : Bool) → b ≡ false → IfOk (cond b (call_typed world names on form (text_at part.args 0) (text_at part.args 1) (text_at part.args 2)) (Err fault.Call)) IsKnownStep
+  no_call form true e = absurd (cc)
+  no_call form false e = tt
+
+  step_named : IfOk (typed_word known world names for last on part) IsKnownStep
   unfolding typed_word
-  step_named = by (found world names purpose.Name last on h part) refl
+  step_named = by (found world names for last on h part) refl
     where
-      by : (it : Option Action) → found world names purpose.Name last on h part ≡ it → IfOk (does world names purpose.Name last on h part it) IsKnownStep
+      by : (it : Option Action) → found world names for last on h part ≡ it → IfOk (does world names for last on h part it) IsKnownStep
       by None e = tt
-      by (Some (action.Step form)) e = step_does world names purpose.Name last on h part form (only_passes is_known _ (action.Step form) e)
-      by (Some (action.Call form)) e = tt
+      by (Some (action.Step form)) e = step_does world names for last on h part form (only_passes is_known _ (action.Step form) e)
+      by (Some (action.Call form)) e = no_call form (may_call for last) (calm last)
       by (Some (action.Make word)) e = absurd (let no : false ≡ true = only_passes is_known _ (action.Make word) e in cc)
 
 -- ---- all words
@@ -156,14 +162,15 @@ steps_before : (n : ℕ) (it : Result Asked Refusal) (t : Result Typing Fault) �
 steps_before n it (Err why) h = tt
 steps_before n it (Ok t) h = ap suc h
 
-named_steps : (world : World) (names : Names) (on : Shape) (parts : List Part) → is_known_shape on ≡ true → IfOk (typed_words known world names purpose.Name on parts) (HasSteps (length parts))
-named_steps world names on [] h = refl
-named_steps world names on (part ∷ parts) h = by (typed_word known world names purpose.Name (is_last parts) on part) (step_named world names (is_last parts) on h part) (λ next k. named_steps world names next parts k)
-  where
-    by : (m : Result Meaning Fault) → IfOk m IsKnownStep → ((next : Shape) → is_known_shape next ≡ true → IfOk (typed_words known world names purpose.Name next parts) (HasSteps (length parts))) → IfOk (go_on on (λ next. typed_words known world names purpose.Name next parts) m) (HasSteps (length (part ∷ parts)))
-    by (Err why) k rest = tt
-    by (Ok (steps_to it next)) k rest = steps_before (length parts) it (typed_words known world names purpose.Name next parts) (rest next k)
-    by (Ok (ends ending)) k rest = absurd k
+module _ (world : World) (names : Names) (for : Purpose) (calm : (last : Bool) → may_call for last ≡ false) where
+  named_steps : (on : Shape) (parts : List Part) → is_known_shape on ≡ true → IfOk (typed_words known world names for on parts) (HasSteps (length parts))
+  named_steps on [] h = refl
+  named_steps on (part ∷ parts) h = by (typed_word known world names for (is_last parts) on part) (step_named world names for calm (is_last parts) on h part) (λ next k. named_steps next parts k)
+    where
+      by : (m : Result Meaning Fault) → IfOk m IsKnownStep → ((next : Shape) → is_known_shape next ≡ true → IfOk (typed_words known world names for next parts) (HasSteps (length parts))) → IfOk (go_on on (λ next. typed_words known world names for next parts) m) (HasSteps (length (part ∷ parts)))
+      by (Err why) k rest = tt
+      by (Ok (steps_to it next)) k rest = steps_before (length parts) it (typed_words known world names for next parts) (rest next k)
+      by (Ok (ends ending)) k rest = absurd k
 
 -- ---- the outcome
 
@@ -181,18 +188,55 @@ eval_leads state v parts h =
     let t = typed_words known state.bases state.names purpose.Reply (shape_at state.bases v) parts in
     eval_reached state v t ∙ ap (eval_typed state v) (sym (all_typed t (words_known state.bases state.names purpose.Reply (shape_at state.bases v) parts h)))
 
-let_made : (state : State) (name : List ℕ) (steps : ℕ) (ending : Ending) (it : Made) → let_concluded state name steps (Ok (with_ending ending it)) ≡ on_view state (let_ended state name steps ending) it
-let_made state name steps ending (a_view v) = refl
-let_made state name steps ending absent = refl
-let_made state name steps ending (refused why) = refl
+bound_made : (state : State) (rest : Ending → View → Outcome) (ending : Ending) (it : Made) → bound_concluded state rest (Ok (with_ending ending it)) ≡ on_view state (rest ending) it
+bound_made state rest ending (a_view v) = refl
+bound_made state rest ending absent = refl
+bound_made state rest ending (refused why) = refl
 
+-- as many steps as words
 let_reached : (state : State) (name : List ℕ) (n : ℕ) (v : View) (t : Result Typing Fault) → IfOk t (HasSteps n) → let_concluded state name n (reach state.bases state.handles v t) ≡ let_typed state name v t
 let_reached state name n v (Err why) h = refl
 let_reached state name n v (Ok t) h =
-    ap (λ (m : ℕ). let_concluded state name m (Ok (with_ending t.ending (reached state v t.steps)))) (sym h) ∙ let_made state name (length t.steps) t.ending (reached state v t.steps)
+    ap (λ (m : ℕ). let_concluded state name m (Ok (with_ending t.ending (reached state v t.steps)))) (sym h) ∙ bound_made state (let_ended state name (length t.steps)) t.ending (reached state v t.steps)
 
 pub let_leads : (state : State) (name : List ℕ) (v : View) (parts : List Part) → is_known_shape (shape_at state.bases v) ≡ true → let_concluded state name (length parts) (target state.bases state.names state.handles purpose.Name v parts) ≡ let_on known state name v parts
 let_leads state name v parts h =
     let t = typed_words known state.bases state.names purpose.Name (shape_at state.bases v) parts in
-    let_reached state name (length parts) v t (named_steps state.bases state.names (shape_at state.bases v) parts h)
+    let_reached state name (length parts) v t (named_steps state.bases state.names purpose.Name (λ last. refl) (shape_at state.bases v) parts h)
     ∙ ap (let_typed state name v) (sym (all_typed t (words_known state.bases state.names purpose.Name (shape_at state.bases v) parts h)))
+
+-- ---- iterators
+
+-- the fault of words to which none is given
+it_faulted : (state : State) (name : List ℕ) (v : View) (t : Result Typing Fault) (why : Fault) → Some why ≡ iterator_fault (shape_of t) → faulted state why ≡ it_typed state name v t
+it_faulted state name v (Err because) why e = let same : why ≡ because = cc in ap (faulted state) same
+it_faulted state name v (Ok t) why e = by (iterates t.gives) e
+  where
+    by : (b : Bool) → Some why ≡ cond b None (Some fault.Call) → faulted state why ≡ cond b (on_view state (it_made state name (length t.steps)) (reached state v t.steps)) (faulted state fault.Call)
+    by true e = cc
+    by false e = let same : why ≡ fault.Call = cc in ap (faulted state) same
+
+pub it_fault : (state : State) (name : List ℕ) (v : View) (parts : List Part) (why : Fault) → Some why ≡ iterator_fault (shape_of (typed_words known state.bases state.names purpose.Iterator (shape_at state.bases v) parts)) → faulted state why ≡ it_on known state name v parts
+it_fault state name v parts why e = it_faulted state name v (typed_words known state.bases state.names purpose.Iterator (shape_at state.bases v) parts) why e
+
+it_reached : (state : State) (name : List ℕ) (n : ℕ) (v : View) (t : Result Typing Fault) → IfOk t (HasSteps n) → (let none : Option Fault = None in none) ≡ iterator_fault (shape_of t) → it_concluded state name n (reach state.bases state.handles v t) ≡ it_typed state name v t
+it_reached state name n v (Err why) h e = cc
+it_reached state name n v (Ok t) h e =
+    ap (λ (m : ℕ). it_concluded state name m (Ok (with_ending t.ending (reached state v t.steps)))) (sym h)
+    ∙ bound_made state (λ ending. it_made state name (length t.steps)) t.ending (reached state v t.steps) ∙ by (iterates t.gives) e
+  where
+    by : (b : Bool) → (let none : Option Fault = None in none) ≡ cond b None (Some fault.Call)
+        → on_view state (it_made state name (length t.steps)) (reached state v t.steps) ≡ cond b (on_view state (it_made state name (length t.steps)) (reached state v t.steps)) (faulted state fault.Call)
+    by true e = refl
+    by false e = cc
+
+pub it_leads : (state : State) (name : List ℕ) (v : View) (parts : List Part) → is_known_shape (shape_at state.bases v) ≡ true
+    → (let none : Option Fault = None in none) ≡ iterator_fault (shape_of (typed_words known state.bases state.names purpose.Iterator (shape_at state.bases v) parts))
+    → it_concluded state name (length parts) (target state.bases state.names state.handles purpose.Iterator v parts) ≡ it_on known state name v parts
+it_leads state name v parts h e =
+    it_reached state name (length parts) v (typed_words known state.bases state.names purpose.Iterator (shape_at state.bases v) parts) (named_steps state.bases state.names purpose.Iterator (λ last. refl) (shape_at state.bases v) parts h) e
+
+-- words to which one is given have no fault
+pub it_typed_ok : (t : Result Typing Fault) → (let none : Option Fault = None in none) ≡ iterator_fault (shape_of t) → IsOk t
+it_typed_ok (Ok t) e = refl
+it_typed_ok (Err why) e = cc

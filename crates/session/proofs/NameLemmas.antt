@@ -19,23 +19,30 @@ use Rattle.machine.specs.State.{Names, State, bound, to_view, named as bound_to}
 use Rattle.base_store.specs.declared.store.Made.{Made}
 use Rattle.base_store.specs.declared.store.Made.TheVariants as made
 use Rattle.vocabulary.specs.Limits.{most_handles}
+use Rattle.base_store.specs.Courses.{spots_in}
 use Rattle.base_store.specs.Stored.{Stored, with_base}
 use Rattle.base_store.proofs.NodeLemmas.{added_base}
 use Rattle.session.specs.declared.faults.ExecFault.{ExecFault}
 use Rattle.session.specs.Coming.{seen_as}
-use Rattle.session.specs.Environment.{bound_at, named, NamesWithin, IsSettled}
+use Rattle.session.specs.declared.bound.Bound.{Bound as Held}
+use Rattle.session.specs.declared.bound.Bound.TheVariants as held
+use Rattle.session.specs.Environment.{AreSeated, Entries, IsSeated, IsSettled, NamesWithin, bound_at, named, node_under}
 use Rattle.session.specs.Executing.{Executed}
+use Rattle.session.specs.Later.{AreLater}
 use Rattle.session.specs.Replying.{Said}
 use Rattle.session.proofs.CallLemmas.{calm_on, does_said}
 use Rattle.session.proofs.EvalLemmas.{take_whole}
 use Rattle.session.proofs.FollowLemmas.{named_more, within_wider}
+use Rattle.session.proofs.LaterLemmas.{one_more}
+use Rattle.session.proofs.SeatLemmas.{seats_stay, seats_with, store_grown}
+use Rattle.view_laws.specs.Spots.{TellAll}
 
 abbrev pub same_text : List ℕ → List ℕ → Bool
 same_text = pointwise nat_eq
 
 -- ---- a look-up
 
-pub named_bound : (nodes : List Made) (names : List (List ℕ × ℕ)) (name : List ℕ) → bound_to (named nodes names) name ≡ option_map (bound_at nodes) (lookup (same_text name) names)
+pub named_bound : (nodes : List Made) (names : Entries) (name : List ℕ) → bound_to (named nodes names) name ≡ option_map (bound_at nodes) (lookup (same_text name) names)
 named_bound nodes [] name = refl
 named_bound nodes (e ∷ names) name = by (same_text name e.0) (named_bound nodes names name)
   where
@@ -44,12 +51,21 @@ named_bound nodes (e ∷ names) name = by (same_text name e.0) (named_bound node
     by true rest = refl
     by false rest = rest
 
-pub found_within : (k : ℕ) (names : List (List ℕ × ℕ)) (name : List ℕ) (n : ℕ) → NamesWithin k names → lookup (same_text name) names ≡ Some n → n < k
-found_within k [] name n h e = cc
-found_within k (x ∷ names) name n h e = by (same_text name x.0) e (found_within k names name n h.1)
+pub found_within : (k : ℕ) (names : Entries) (name : List ℕ) (it : Held) → NamesWithin k names → lookup (same_text name) names ≡ Some it → node_under it < k
+found_within k [] name it h e = cc
+found_within k (x ∷ names) name it h e = by (same_text name x.0) e (found_within k names name it h.1)
   where
-    by : (b : Bool) → cond b (Some x.1) (lookup (same_text name) names) ≡ Some n → (lookup (same_text name) names ≡ Some n → n < k) → n < k
-    by true f rest = let here : x.1 ≡ n = cc in subst (λ m. m < k) here h.0
+    by : (b : Bool) → cond b (Some x.1) (lookup (same_text name) names) ≡ Some it → (lookup (same_text name) names ≡ Some it → node_under it < k) → node_under it < k
+    by true f rest = let here : x.1 ≡ it = cc in subst (λ (m : Held). node_under m < k) here h.0
+    by false f rest = rest f
+
+-- what was found is seated
+pub found_seated : (store : Stored) (names : Entries) (name : List ℕ) (it : Held) → AreSeated store names → lookup (same_text name) names ≡ Some it → IsSeated store it
+found_seated store [] name it h e = cc
+found_seated store (x ∷ names) name it h e = by (same_text name x.0) e (found_seated store names name it h.1)
+  where
+    by : (b : Bool) → cond b (Some x.1) (lookup (same_text name) names) ≡ Some it → (lookup (same_text name) names ≡ Some it → IsSeated store it) → IsSeated store it
+    by true f rest = let here : x.1 ≡ it = cc in subst (IsSeated store) here h.0
     by false f rest = rest f
 
 -- ---- handles
@@ -71,23 +87,23 @@ handles-memory state n o wants = by (nat_lt most_handles (state.handles + n))
 
 -- ---- a new name
 
-pub bound_named : (nodes : List Made) (names : List (List ℕ × ℕ)) (name : List ℕ) (n : ℕ) → named nodes (insert_entry same_text names name n) ≡ bound (named nodes names) name (bound_at nodes n)
-bound_named nodes [] name n = refl
-bound_named nodes (e ∷ names) name n = by (same_text name e.0) (bound_named nodes names name n)
+pub bound_named : (nodes : List Made) (names : Entries) (name : List ℕ) (it : Held) → named nodes (insert_entry same_text names name it) ≡ bound (named nodes names) name (bound_at nodes it)
+bound_named nodes [] name it = refl
+bound_named nodes (e ∷ names) name it = by (same_text name e.0) (bound_named nodes names name it)
   where
-    by : (b : Bool) → named nodes (insert_entry same_text names name n) ≡ bound (named nodes names) name (bound_at nodes n)
-        → named nodes (cond b ((e.0, n) ∷ names) (e ∷ insert_entry same_text names name n)) ≡ cond b ((e.0, bound_at nodes n) ∷ named nodes names) ((e.0, bound_at nodes e.1) ∷ bound (named nodes names) name (bound_at nodes n))
+    by : (b : Bool) → named nodes (insert_entry same_text names name it) ≡ bound (named nodes names) name (bound_at nodes it)
+        → named nodes (cond b ((e.0, it) ∷ names) (e ∷ insert_entry same_text names name it)) ≡ cond b ((e.0, bound_at nodes it) ∷ named nodes names) ((e.0, bound_at nodes e.1) ∷ bound (named nodes names) name (bound_at nodes it))
     by true rest = refl
     by false rest = ap (λ (ns : Names). (e.0, bound_at nodes e.1) ∷ ns) rest
 
-pub within_more : (names : List (List ℕ × ℕ)) (name : List ℕ) (node n m : ℕ) → NamesWithin n names → n ≤ m → node < m → NamesWithin m (insert_entry same_text names name node)
-within_more [] name node n m h le lt = (lt, tt)
-within_more (e ∷ names) name node n m h le lt = by (same_text name e.0) (within_more names name node n m h.1 le lt)
+pub within_more : (names : Entries) (name : List ℕ) (it : Held) (n m : ℕ) → NamesWithin n names → n ≤ m → node_under it < m → NamesWithin m (insert_entry same_text names name it)
+within_more [] name it n m h le lt = (lt, tt)
+within_more (e ∷ names) name it n m h le lt = by (same_text name e.0) (within_more names name it n m h.1 le lt)
   where
-    first : e.1 < m
-    first = let old : e.1 < n = h.0 in omega (arith, old, le)
+    first : node_under e.1 < m
+    first = let old : node_under e.1 < n = h.0 in omega (arith, old, le)
 
-    by : (b : Bool) → NamesWithin m (insert_entry same_text names name node) → NamesWithin m (cond b ((e.0, node) ∷ names) (e ∷ insert_entry same_text names name node))
+    by : (b : Bool) → NamesWithin m (insert_entry same_text names name it) → NamesWithin m (cond b ((e.0, it) ∷ names) (e ∷ insert_entry same_text names name it))
     by true rest = (lt, within_wider names n m le h.1)
     by false rest = (first, rest)
 
@@ -100,27 +116,29 @@ ok_at (Ok x) e h = h
 ok_at (Err x) e h = cc
 
 -- a base was made and named
-pub record Added (s now : Stored) (names names' : List (List ℕ × ℕ)) (name : List ℕ) (kind : Kind) : Type 0 where
+pub record Added (s now : Stored) (names names' : Entries) (name : List ℕ) (kind : Kind) : Type 0 where
   pub settled : IsSettled s names
   pub grown : now ≡ with_base s kind
   pub room : s.handles < most_handles
-  pub entered : names' ≡ insert_entry same_text names name s.lasting
+  pub entered : names' ≡ insert_entry same_text names name (held.View s.lasting)
+  pub tell : TellAll now.world (spots_in now.world)
 
-module _ (s now : Stored) (names names' : List (List ℕ × ℕ)) (name : List ℕ) (kind : Kind) (h : Added s now names names' name kind) where
+module _ (s now : Stored) (names names' : Entries) (name : List ℕ) (kind : Kind) (h : Added s now names names' name kind) where
   nodes_now : now.nodes ≡ s.nodes ++ made.Base (length s.world) ∷ []
   nodes_now = ap (λ (x : Stored). x.nodes) h.grown ∙ ap (λ (ns : List Made). ns ++ made.Base (length s.world) ∷ []) (ap (λ (n : ℕ). take n s.nodes) (sym h.settled.still) ∙ take_whole s.nodes)
 
   lasting_now : now.lasting ≡ s.lasting + 1
   lasting_now = ap (λ (x : Stored). x.lasting) h.grown
 
+  worlds : now.world ≡ s.world ++ empty_base kind ∷ []
+  worlds = ap (λ (x : Stored). x.world) h.grown
+
   pub settled_more : IsSettled now names'
   settled_more = record {
     still = ap (λ (ns : List Made). length ns) nodes_now ∙ length-append s.nodes (made.Base (length s.world) ∷ []) ∙ ap (λ (n : ℕ). n + 1) h.settled.still ∙ sym lasting_now;
-    named_within = subst (λ (ns : List (List ℕ × ℕ)). NamesWithin now.lasting ns) (sym h.entered) (within_more names name s.lasting s.lasting now.lasting h.settled.named_within (omega (arith, lasting_now)) (omega (arith, lasting_now)));
+    named_within = subst (λ (ns : Entries). NamesWithin now.lasting ns) (sym h.entered) (within_more names name (held.View s.lasting) s.lasting now.lasting h.settled.named_within (omega (arith, lasting_now)) (omega (arith, lasting_now)));
+    seated = subst (AreSeated now) (sym h.entered) (seats_with now names name (held.View s.lasting) (seats_stay s now names (store_grown s now (made.Base (length s.world) ∷ []) nodes_now (subst (AreLater s.world) (sym worlds) (one_more s.world (empty_base kind))) h.tell) h.settled.seated) tt);
   }
-
-  worlds : now.world ≡ s.world ++ empty_base kind ∷ []
-  worlds = ap (λ (x : Stored). x.world) h.grown
 
   abbrev all : World
   all = s.world ++ empty_base kind ∷ []
@@ -131,10 +149,10 @@ module _ (s now : Stored) (names names' : List (List ℕ × ℕ)) (name : List �
 
   names_now : named now.nodes names' ≡ bound (named s.nodes names) name (to_view (base (stored (length all - 1))))
   names_now =
-      ap (λ (ns : List (List ℕ × ℕ)). named now.nodes ns) h.entered ∙ bound_named now.nodes names name s.lasting
-      ∙ ap (λ (ns : List Made). bound (named ns names) name (bound_at ns s.lasting)) nodes_now
-      ∙ ap (λ (known : Names). bound known name (bound_at (s.nodes ++ made.Base (length s.world) ∷ []) s.lasting)) (named_more s.nodes (made.Base (length s.world) ∷ []) names (subst (λ (n : ℕ). NamesWithin n names) (sym h.settled.still) h.settled.named_within))
-      ∙ ap (λ (n : ℕ). bound (named s.nodes names) name (bound_at (s.nodes ++ made.Base (length s.world) ∷ []) n)) (sym h.settled.still)
+      ap (λ (ns : Entries). named now.nodes ns) h.entered ∙ bound_named now.nodes names name (held.View s.lasting)
+      ∙ ap (λ (ns : List Made). bound (named ns names) name (bound_at ns (held.View s.lasting))) nodes_now
+      ∙ ap (λ (known : Names). bound known name (bound_at (s.nodes ++ made.Base (length s.world) ∷ []) (held.View s.lasting))) (named_more s.nodes (made.Base (length s.world) ∷ []) names (subst (λ (n : ℕ). NamesWithin n names) (sym h.settled.still) h.settled.named_within))
+      ∙ ap (λ (n : ℕ). bound (named s.nodes names) name (bound_at (s.nodes ++ made.Base (length s.world) ∷ []) (held.View n))) (sym h.settled.still)
       ∙ ap (λ (v : View). bound (named s.nodes names) name (to_view v)) (added_base s.nodes (length s.world))
       ∙ ap (λ (n : ℕ). bound (named s.nodes names) name (to_view (base (stored n)))) last
 

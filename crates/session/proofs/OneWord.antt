@@ -6,7 +6,7 @@ use Rattle.script_text.specs.Parts.{part_in}
 use Rattle.session.specs.declared.faults.ExecFault.{ExecFault}
 use Rattle.session.specs.declared.typing.Typed.{Typed}
 use Rattle.session.specs.Coming.{Came}
-use Rattle.session.specs.Environment.{named}
+use Rattle.session.specs.Environment.{Entries, named}
 use Rattle.session.specs.Following.{meaning_in, meant_in, parts_in, target_in}
 use Rattle.session.specs.Targets.{Target, concluded, leads}
 use Rattle.session.proofs.FollowLemmas.{on_end, on_fault}
@@ -25,7 +25,7 @@ one_part line (p ∷ []) part le lt e = ap (λ (x : Placed). part_in line x ∷ 
 one_part line (p ∷ q ∷ ps) part le lt e = absurd (omega arith)
 
 -- a word that was typed on the view of a node
-module _ (names : List (List ℕ × ℕ)) (s : Stored) (node : ℕ) (line : List ℕ) (parts : List Placed) (part : Placed) (on : Shape) (r : Result Typed Fault) (lone : parts_in line parts ≡ part_in line part ∷ []) (shape : on ≡ shape_at s.world (view_in s node)) (meant : meant_in s (text_at (part_in line part).args 0) r ≡ typed_word known s.world (named s.nodes names) Reply true on (part_in line part)) where
+module _ (names : Entries) (s : Stored) (node : ℕ) (line : List ℕ) (parts : List Placed) (part : Placed) (on : Shape) (r : Result Typed Fault) (lone : parts_in line parts ≡ part_in line part ∷ []) (shape : on ≡ shape_at s.world (view_in s node)) (meant : meant_in s (text_at (part_in line part).args 0) r ≡ typed_word known s.world (named s.nodes names) Reply true on (part_in line part)) where
   word_is : (it : Result Typed Fault) → r ≡ it → typed_word known s.world (named s.nodes names) Reply true (shape_at s.world (view_in s node)) (part_in line part) ≡ meant_in s (text_at (part_in line part).args 0) it
   word_is it e = ap (λ (of : Shape). typed_word known s.world (named s.nodes names) Reply true of (part_in line part)) (sym shape) ∙ sym meant ∙ ap (meant_in s (text_at (part_in line part).args 0)) e
 

@@ -1,5 +1,5 @@
 -- The outcomes of lines, as the plain machine has them.
-use Rattle.std.proofs.Common.{◌≡◌, ◌⊎◌, ◌≤◌, ℕ, Bool, true, false, cond, nat_lt, List, [], ◌∷◌, ◌++◌, length, inl, inr, map, Option, None, Some, Result, Ok, Err, refl, sym, ◌∙◌, ap, subst, arith}
+use Rattle.std.proofs.Common.{◌≡◌, ◌⊎◌, ◌≤◌, ℕ, Bool, true, false, cond, nat_lt, List, [], ◌∷◌, ◌++◌, length, inl, inr, map, Option, None, Some, Result, Ok, Err, OnOk, OnErr, ◌<◌, refl, sym, ◌∙◌, ap, subst, arith}
 use Rattle.std.specs.Prelude.{codes}
 use Rattle.std.specs.Map.{lookup}
 use Rattle.std.specs.Option.{option_map}
@@ -19,18 +19,32 @@ use Rattle.script_text.specs.Trees as tree
 use Rattle.session.specs.declared.faults.ExecFault.{ExecFault}
 use Rattle.session.specs.declared.faults.ExecFault.TheVariants.{NoMemory}
 use Rattle.session.specs.Coming.{Came, seen_as}
-use Rattle.session.specs.Environment.{bound_at, named}
+use Rattle.cursor_seat.specs.declared.seat.Seat.{Seat}
+use Rattle.session.specs.declared.bound.Bound.{Bound as Held}
+use Rattle.session.specs.declared.bound.Bound.TheVariants as held
+use Rattle.session.specs.Environment.{Entries, IsSettled, NamesWithin, bound_at, iterator_at, named}
+use Rattle.session.specs.Iterating.{Turned}
+use Rattle.session.specs.Later.{AreLater}
+use Rattle.indexmap.specs.IndexMap.{insert_entry}
+use Rattle.base_store.specs.Courses.{spots_in}
+use Rattle.cursor_seat.specs.Seats.{Fits}
+use Rattle.view_laws.specs.Spots.{TellAll}
+use Rattle.vocabulary.specs.declared.lines.OnIterator.{OnIterator}
+use Rattle.session.proofs.SeatLemmas.{seats_stay, seats_with, store_kept}
 use Rattle.session.specs.Executing.{Executed}
 use Rattle.session.specs.Following.{parts_in, target_in}
 use Rattle.session.specs.KnownShapes.{is_known_shape}
 use Rattle.session.specs.Replying.{Refuses, Said}
-use Rattle.session.specs.Targets.{concluded, let_concluded}
+use Rattle.session.specs.Targets.{concluded, iterator_fault, let_concluded, shape_of}
 use Rattle.machine.specs.Languages.{known, only_if}
 use Rattle.machine.specs.Lines.{eval_of, step_of}
-use Rattle.machine.specs.Naming.{let_of, new_of}
+use Rattle.machine.specs.Naming.{it_of, let_of, new_of}
 use Rattle.machine.specs.Outcomes.{Outcome, fault_text, refused_late, says}
 use Rattle.machine.specs.Parts.{Part}
-use Rattle.machine.specs.State.{Bound, State, named as bound_to}
+use Rattle.machine.specs.Iterating.{iterated, iterator_word}
+use Rattle.machine.specs.Iterators.{Iterator}
+use Rattle.machine.specs.State.{Bound, Names, State, bound, named as bound_to, to_iterator}
+use Rattle.machine.specs.Typing.{typed_words}
 use Rattle.vocabulary.specs.declared.lines.Fault.{Fault}
 use Rattle.vocabulary.specs.declared.lines.Purpose.TheVariants as purpose
 use Rattle.vocabulary.specs.Known.{is_known_kind}
@@ -40,11 +54,11 @@ use Rattle.vocabulary.specs.declared.refusals.Refusal.{Refusal}
 use Rattle.vocabulary.specs.Refusals.{name_of}
 use Rattle.vocabulary.specs.declared.refusals.Refusal.TheVariants as refusal
 use Rattle.machine.specs.RowCounts.{ChangesUpTo}
-use Rattle.session.proofs.NameLemmas.{executed_said, executed_unchanged, handles-memory, named_bound, same_text, without_room}
+use Rattle.session.proofs.NameLemmas.{bound_named, within_more, executed_said, executed_unchanged, handles-memory, named_bound, same_text, without_room}
 use Rattle.session.proofs.CallLemmas.{calm_on, stays}
-use Rattle.session.proofs.LineLemmas.{eval_leads, let_leads}
+use Rattle.session.proofs.LineLemmas.{eval_leads, it_fault, let_leads}
 use Rattle.session.proofs.ReplyLemmas.{takes_none}
-use Rattle.session.proofs.TextLemmas.{eval_alike, let_alike}
+use Rattle.session.proofs.TextLemmas.{eval_alike, it_alike, let_alike}
 
 -- ---- the forms of a line, each as the tree that was read with the places of its arguments
 
@@ -79,13 +93,19 @@ module _ (state : State) (line : List ℕ) where
   on_syntax parts (tree.It name x) e = cc
   on_syntax parts (tree.Eval x) e = cc
 
-  pub on_it : (name head : List ℕ) (parts : List Placed) (t : Tree (Call Slice)) → line_view (form.It name head) parts ≡ map_tree part_of t → says state (codes "?call") ≡ stepped t
+  pub on_it : (name head : List ℕ) (parts : List Placed) (t : Tree (Call Slice)) → line_view (form.It name head) parts ≡ map_tree part_of t → it_of known state name (bound_to state.names head) (parts_in line parts) ≡ stepped t
   on_it name head parts tree.Blank e = cc
   on_it name head parts tree.Long e = cc
   on_it name head parts tree.Syntax e = cc
   on_it name head parts (tree.New n k) e = cc
   on_it name head parts (tree.Let n x) e = cc
-  on_it name head parts (tree.It n x) e = refl
+  on_it name head parts (tree.It n x) e =
+      let names : name ≡ n = cc in
+      let same : expr_view head parts ≡ map_expression part_of x = cc in
+      let heads : head ≡ x.head = ap (λ (y : Expression Placed). y.head) same in
+      let calls : parts ≡ map part_of x.calls = ap (λ (y : Expression Placed). y.calls) same in
+      ap (λ (m : List ℕ). it_of known state m (bound_to state.names head) (parts_in line parts)) names ∙ ap (λ (h : List ℕ). it_of known state n (bound_to state.names h) (parts_in line parts)) heads
+      ∙ ap (λ (ps : List Placed). it_of known state n (bound_to state.names x.head) (parts_in line ps)) calls ∙ it_alike state n line (bound_to state.names x.head) x.calls
   on_it name head parts (tree.Eval x) e = cc
 
   pub on_new : (name : List ℕ) (kind : KindName) (parts : List Placed) (t : Tree (Call Slice)) → line_view (form.New name kind) parts ≡ map_tree part_of t → new_of state name (only_if is_known_kind (kind_named (kind_text kind))) ≡ stepped t
@@ -146,6 +166,9 @@ short_line line t short e = by (nat_lt 1024 (length line)) refl
 pub short_let : (name head line : List ℕ) (parts : List Placed) → line_view (form.Let name head) parts ≡ map_tree part_of (placed_line line) → length line ≤ 1024
 short_let name head line parts e = short_line line (tree.Let name (expr_view head parts)) (λ q. cc) e
 
+pub short_it : (name head line : List ℕ) (parts : List Placed) → line_view (form.It name head) parts ≡ map_tree part_of (placed_line line) → length line ≤ 1024
+short_it name head line parts e = short_line line (tree.It name (expr_view head parts)) (λ q. cc) e
+
 pub short_eval : (head line : List ℕ) (parts : List Placed) → line_view (form.Eval head) parts ≡ map_tree part_of (placed_line line) → length line ≤ 1024
 short_eval head line parts e = short_line line (tree.Eval (expr_view head parts)) (λ q. cc) e
 
@@ -163,11 +186,11 @@ pub executed_no_memory : (state now : State) (outcome : Outcome) (t : Option (Li
 executed_no_memory state now outcome t f e wants = record { does = (e, stays t, wants); changes = λ n c. calm_on n now.bases (subst (λ (x : State). ChangesUpTo n x.bases) (sym e) c); later = omega arith; cause = λ q. cc }
 
 -- what a store and names are seen as where they are as before
-pub seen_same : (s now : Stored) (names names' : List (List ℕ × ℕ)) → now ≡ s → names' ≡ names → seen_as now (named now.nodes names') ≡ seen_as s (named s.nodes names)
-seen_same s now names names' e is = ap (λ (x : Stored). seen_as x (named x.nodes names')) e ∙ ap (λ (ns : List (List ℕ × ℕ)). seen_as s (named s.nodes ns)) is
+pub seen_same : (s now : Stored) (names names' : Entries) → now ≡ s → names' ≡ names → seen_as now (named now.nodes names') ≡ seen_as s (named s.nodes names)
+seen_same s now names names' e is = ap (λ (x : Stored). seen_as x (named x.nodes names')) e ∙ ap (λ (ns : Entries). seen_as s (named s.nodes ns)) is
 
 -- want of memory, as a refusal
-pub executed_silent : {q : Result (Unit {0}) ExecFault} {t u : Option (List ℕ)} {f g : ℕ} (s now : Stored) (names names' : List (List ℕ × ℕ)) (outcome : Outcome) → now ≡ s → names' ≡ names → outcome.memory ≡ true → Refuses refusal.NoMemory q t u f g
+pub executed_silent : {q : Result (Unit {0}) ExecFault} {t u : Option (List ℕ)} {f g : ℕ} (s now : Stored) (names names' : Entries) (outcome : Outcome) → now ≡ s → names' ≡ names → outcome.memory ≡ true → Refuses refusal.NoMemory q t u f g
     → Executed q (seen_as s (named s.nodes names)) (seen_as now (named now.nodes names')) outcome t u f g
 executed_silent {q} {t} {u} {f} {g} s now names names' outcome same unnamed wants said =
     subst (λ (x : Result (Unit {0}) ExecFault). Executed x before after outcome t u f g) (sym said.0)
@@ -182,10 +205,10 @@ executed_silent {q} {t} {u} {f} {g} s now names names' outcome same unnamed want
 
 -- ---- an expression behind a name
 
-pub name_unknown : (nodes : List Made) (names : List (List ℕ × ℕ)) (name : List ℕ) → lookup (same_text name) names ≡ None → bound_to (named nodes names) name ≡ None
+pub name_unknown : (nodes : List Made) (names : Entries) (name : List ℕ) → lookup (same_text name) names ≡ None → bound_to (named nodes names) name ≡ None
 name_unknown nodes names name e = named_bound nodes names name ∙ ap (option_map (bound_at nodes)) e
 
-pub executed_eval : {r : Result (Unit {0}) ExecFault} {t u : Option (List ℕ)} {f g : ℕ} (s now : Stored) (names : List (List ℕ × ℕ)) (name : List ℕ) (head : ℕ) (parts : List Part) → lookup (same_text name) names ≡ Some head
+pub executed_eval : {r : Result (Unit {0}) ExecFault} {t u : Option (List ℕ)} {f g : ℕ} (s now : Stored) (names : Entries) (name : List ℕ) (head : ℕ) (parts : List Part) → lookup (same_text name) names ≡ Some (held.View head)
     → is_known_shape (shape_at s.world (view_in s head)) ≡ true → Came r s now (λ state. concluded state (target_in s s.handles names purpose.Reply head parts)) t u f g
     → Executed r (seen_as s (named s.nodes names)) (seen_as now (named now.nodes names)) (eval_of known (seen_as s (named s.nodes names)) name (bound_to (named s.nodes names) name) parts) t u f g
 executed_eval {r} {t} {u} {f} {g} s now names name head parts found shape h =
@@ -199,7 +222,7 @@ executed_eval {r} {t} {u} {f} {g} s now names name head parts found shape h =
     outcome = eval_leads before (view_in s head) parts shape ∙ ap (λ (o : Option Bound). eval_of known before name o parts) (sym (named_bound s.nodes names name ∙ ap (option_map (bound_at s.nodes)) found))
 
 -- words with a fault behind a name
-pub executed_fault : {q : Result (Unit {0}) ExecFault} {t u : Option (List ℕ)} {f g : ℕ} (s : Stored) (names : List (List ℕ × ℕ)) (name headname : List ℕ) (head : ℕ) (parts : List Part) (fault : Fault) → lookup (same_text headname) names ≡ Some head
+pub executed_fault : {q : Result (Unit {0}) ExecFault} {t u : Option (List ℕ)} {f g : ℕ} (s : Stored) (names : Entries) (name headname : List ℕ) (head : ℕ) (parts : List Part) (fault : Fault) → lookup (same_text headname) names ≡ Some (held.View head)
     → is_known_shape (shape_at s.world (view_in s head)) ≡ true → target_in s s.handles names purpose.Name head parts ≡ Err fault → Said q t u f g (fault_text fault ++ 10 ∷ [])
     → Executed q (seen_as s (named s.nodes names)) (seen_as s (named s.nodes names)) (let_of known (seen_as s (named s.nodes names)) name (bound_to (named s.nodes names) headname) parts) t u f g
 executed_fault {q} {t} {u} {f} {g} s names name headname head parts fault found shape faulty said =
@@ -213,8 +236,27 @@ executed_fault {q} {t} {u} {f} {g} s names name headname head parts fault found 
         sym (ap (let_concluded before name (length parts)) faulty) ∙ let_leads before name (view_in s head) parts shape
         ∙ ap (λ (o : Option Bound). let_of known before name o parts) (sym (named_bound s.nodes names headname ∙ ap (option_map (bound_at s.nodes)) found))
 
+-- and words to which no iterator is given
+pub executed_no_iterator : {q : Result (Unit {0}) ExecFault} {t u : Option (List ℕ)} {f g : ℕ} (s : Stored) (names : Entries) (name headname : List ℕ) (head : ℕ) (parts : List Part) (why : Fault) → lookup (same_text headname) names ≡ Some (held.View head)
+    → Some why ≡ iterator_fault (shape_of (typed_words known s.world (named s.nodes names) purpose.Iterator (shape_at s.world (view_in s head)) parts)) → Said q t u f g (fault_text why ++ 10 ∷ [])
+    → Executed q (seen_as s (named s.nodes names)) (seen_as s (named s.nodes names)) (it_of known (seen_as s (named s.nodes names)) name (bound_to (named s.nodes names) headname) parts) t u f g
+executed_no_iterator {q} {t} {u} {f} {g} s names name headname head parts why found faulty said =
+    subst (λ (o : Outcome). Executed q before before o t u f g) outcome (executed_said q before t u f g (fault_text why) said)
+  where
+    before : State
+    before = seen_as s (named s.nodes names)
+
+    outcome : says before (fault_text why) ≡ it_of known before name (bound_to (named s.nodes names) headname) parts
+    outcome =
+        it_fault before name (view_in s head) parts why faulty
+        ∙ ap (λ (o : Option Bound). it_of known before name o parts) (sym (named_bound s.nodes names headname ∙ ap (option_map (bound_at s.nodes)) found))
+
+-- what a name stands for that is an iterator's
+pub name_iterates : (nodes : List Made) (names : Entries) (name : List ℕ) (seat : Seat) → lookup (same_text name) names ≡ Some (held.Iterator seat) → bound_to (named nodes names) name ≡ Some (to_iterator (iterator_at nodes seat))
+name_iterates nodes names name seat e = named_bound nodes names name ∙ ap (option_map (bound_at nodes)) e
+
 -- a new base for which there is no handle, or no memory
-pub executed_full : {q : Result (Unit {0}) ExecFault} {t u : Option (List ℕ)} {f g : ℕ} (s now : Stored) (names names' : List (List ℕ × ℕ)) (name : List ℕ) (kind : Kind) (why : Refusal) → now ≡ s → names' ≡ names
+pub executed_full : {q : Result (Unit {0}) ExecFault} {t u : Option (List ℕ)} {f g : ℕ} (s now : Stored) (names names' : Entries) (name : List ℕ) (kind : Kind) (why : Refusal) → now ≡ s → names' ≡ names
     → ((why ≡ refusal.Limit) × (s.handles ≡ most_handles)) ⊎ (why ≡ refusal.NoMemory) → Refuses why q t u f g
     → Executed q (seen_as s (named s.nodes names)) (seen_as now (named now.nodes names')) (new_of (seen_as s (named s.nodes names)) name (Some kind)) t u f g
 executed_full {q} {t} {u} {f} {g} s now names names' name kind why same unnamed (inr memory) said =
@@ -228,3 +270,52 @@ executed_full {q} {t} {u} {f} {g} s now names names' name kind why same unnamed 
 
     told : Said q t u f g (name_of refusal.Limit ++ 10 ∷ [])
     told = subst (λ (x : Refusal). Refuses x q t u f g) full.0 said
+
+-- ---- iterators behind names
+
+-- what comes of a name that stands for no view
+pub no_view : (nodes : List Made) (names : Entries) (name : List ℕ) (it : Held) → lookup (same_text name) names ≡ Some it → ((n : ℕ) → it ≡ held.View n → ⊥) → (P : Option Bound → Outcome) (o : Outcome) → ((i : Iterator) → o ≡ P (Some (to_iterator i))) → o ≡ P (bound_to (named nodes names) name)
+no_view nodes names name (held.View n) e never P o h = absurd (never n refl)
+no_view nodes names name (held.Iterator seat) e never P o h = h (iterator_at nodes seat) ∙ ap P (sym (name_iterates nodes names name seat e))
+
+-- what was entered where nothing else can come
+pub entered : {T E P X : Type 0} (r : Result T E) (x : Option X) (it : X) → OnOk r P → OnErr r (x ≡ None) → x ≡ Some it → P
+entered (Ok v) x it p none e = p
+entered (Err why) x it p none e = cc
+
+-- the names fit a store at a later time whose nodes are what they were
+pub settled_came : (s now : Stored) (names : Entries) → IsSettled s names → now.nodes ≡ s.nodes → now.lasting ≡ s.lasting → AreLater s.world now.world → TellAll now.world (spots_in now.world) → IsSettled now names
+settled_came s now names h nodes lasting later tell = record {
+  still = ap (λ (ns : List Made). length ns) nodes ∙ h.still ∙ sym lasting;
+  named_within = subst (λ (n : ℕ). NamesWithin n names) (sym lasting) h.named_within;
+  seated = seats_stay s now names (store_kept s now nodes later tell) h.seated;
+}
+
+-- and so do they with one of them bound again to its iterator
+pub settled_turned : (s now : Stored) (names names' : Entries) (name : List ℕ) (moved : Seat) → IsSettled s names → now.nodes ≡ s.nodes → now.lasting ≡ s.lasting → AreLater s.world now.world → Fits now moved → names' ≡ insert_entry same_text names name (held.Iterator moved) → IsSettled now names'
+settled_turned s now names names' name moved h nodes lasting later fits is =
+    let same : IsSettled now names = settled_came s now names h nodes lasting later fits.there.tell in
+    let there : moved.node < length now.nodes = fits.there.node in
+    subst (IsSettled now) (sym is) (record {
+      still = same.still;
+      named_within = within_more names name (held.Iterator moved) now.lasting now.lasting same.named_within (omega arith) (omega (arith, there, same.still));
+      seated = seats_with now names name (held.Iterator moved) same.seated fits;
+    })
+
+pub executed_turned : {r : Result (Unit {0}) ExecFault} {t u : Option (List ℕ)} {f g : ℕ} (s now : Stored) (names names' : Entries) (name : List ℕ) (seat moved : Seat) (word : Option OnIterator) (parts : List Part) → lookup (same_text name) names ≡ Some (held.Iterator seat)
+    → names' ≡ insert_entry same_text names name (held.Iterator moved) → word ≡ iterator_word parts → Turned r s now seat moved word t u f g
+    → Executed r (seen_as s (named s.nodes names)) (seen_as now (named now.nodes names')) (eval_of known (seen_as s (named s.nodes names)) name (bound_to (named s.nodes names) name) parts) t u f g
+executed_turned {r} {t} {u} {f} {g} s now names names' name seat moved word parts found is asks h =
+    subst (λ (o : Outcome). Executed r before (seen_as now (named now.nodes names')) o t u f g) outcome
+    (subst (λ (ns : Names). Executed r before (seen_as now ns) (iterated before name (iterator_at s.nodes seat) word) t u f g) (sym names_now) (h.executed (named s.nodes names) name (name_iterates s.nodes names name seat found)))
+  where
+    before : State
+    before = seen_as s (named s.nodes names)
+
+    names_now : named now.nodes names' ≡ bound (named s.nodes names) name (bound_at now.nodes (held.Iterator moved))
+    names_now =
+        ap (named now.nodes) is ∙ bound_named now.nodes names name (held.Iterator moved)
+        ∙ ap (λ (nodes : List Made). bound (named nodes names) name (bound_at now.nodes (held.Iterator moved))) h.nodes
+
+    outcome : iterated before name (iterator_at s.nodes seat) word ≡ eval_of known before name (bound_to (named s.nodes names) name) parts
+    outcome = ap (iterated before name (iterator_at s.nodes seat)) asks ∙ ap (λ (o : Option Bound). eval_of known before name o parts) (sym (name_iterates s.nodes names name seat found))

@@ -28,7 +28,7 @@ use Rattle.machine.specs.Lines.{eval_of, eval_typed}
 use Rattle.machine.specs.Making.{Asked}
 use Rattle.machine.specs.Meanings.{Meaning, acting, call_typed, fitting, if_fits, may_call, step_typed, typed_word}
 use Rattle.machine.specs.Meanings as meaning
-use Rattle.machine.specs.Naming.{let_of, let_typed}
+use Rattle.machine.specs.Naming.{it_of, it_typed, let_of, let_typed}
 use Rattle.machine.specs.Parts.{text_at}
 use Rattle.machine.specs.State.{Bound, Names, State, to_iterator, to_view}
 use Rattle.machine.specs.Typing.{Typing, go_on, is_last, typed_end, typed_words}
@@ -154,7 +154,7 @@ module _ (line : List ℕ) where
   parts_alike [] = refl
   parts_alike (c ∷ cs) = ap suc (parts_alike cs)
 
-  iterator_alike : (cs : List (Call Slice)) → iterator_word (parts_in line (map part_of cs)) ≡ iterator_word (map (in_pieces line) cs)
+  pub iterator_alike : (cs : List (Call Slice)) → iterator_word (parts_in line (map part_of cs)) ≡ iterator_word (map (in_pieces line) cs)
   iterator_alike [] = refl
   iterator_alike (c ∷ []) = ap (λ (n : ℕ). cond (nat_eq n 0) (word_of c.word) None) (count_alike c.args)
   iterator_alike (c ∷ d ∷ cs) = refl
@@ -163,6 +163,11 @@ pub eval_alike : (state : State) (name line : List ℕ) (head : Option Bound) (c
 eval_alike state name line None cs = refl
 eval_alike state name line (Some (to_iterator it)) cs = ap (iterated state name it) (iterator_alike line cs)
 eval_alike state name line (Some (to_view v)) cs = ap (λ (t : Result Typing Fault). eval_typed state v (if_fits typed_end t)) (words_alike line state.bases state.names purpose.Reply (shape_at state.bases v) cs)
+
+pub it_alike : (state : State) (name line : List ℕ) (head : Option Bound) (cs : List (Call Slice)) → it_of known state name head (parts_in line (map part_of cs)) ≡ it_of known state name head (map (in_pieces line) cs)
+it_alike state name line None cs = refl
+it_alike state name line (Some (to_iterator it)) cs = refl
+it_alike state name line (Some (to_view v)) cs = ap (it_typed state name v) (words_alike line state.bases state.names purpose.Iterator (shape_at state.bases v) cs)
 
 pub let_alike : (state : State) (name line : List ℕ) (head : Option Bound) (cs : List (Call Slice)) → let_of known state name head (parts_in line (map part_of cs)) ≡ let_of known state name head (map (in_pieces line) cs)
 let_alike state name line None cs = refl

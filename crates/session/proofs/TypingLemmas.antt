@@ -1,8 +1,7 @@
 -- A call with the view of a name, and calls with arguments that were read.
-use Rattle.std.proofs.Common.{◌≡◌, ℕ, Bool, true, List, Option, None, Some, IfSome, Result, Ok, Err, cond, refl, sym, ◌∙◌, ap, subst}
+use Rattle.std.proofs.Common.{◌≡◌, ◌∷◌, ℕ, Bool, true, List, Option, None, Some, IfSome, IsSome, Result, Ok, Err, cond, refl, sym, ◌∙◌, ap, subst}
 use Rattle.std.specs.Map.{lookup}
 use Rattle.std.specs.Option.{option_map, option_and_then}
-use Rattle.std.specs.Result.{result_err}
 use Rattle.base_store.specs.declared.store.Made.{Made}
 use Rattle.base_store.specs.Nodes.{view_at}
 use Rattle.elem.specs.declared.elements.Elem.{Elem}
@@ -27,15 +26,21 @@ use Rattle.machine.specs.Arguments.{index_in, name_in}
 use Rattle.machine.specs.Bases.{World}
 use Rattle.machine.specs.CallArguments.{element_in}
 use Rattle.machine.specs.Making.{Asked}
-use Rattle.machine.specs.Meanings.{Meaning, an_end, call_typed, call_with, calls, calls_with, ends, fitting, if_fits, view_bound, view_named}
+use Rattle.machine.specs.Languages.{known}
+use Rattle.machine.specs.Parts.{Part}
+use Rattle.vocabulary.specs.declared.lines.Purpose.{Purpose}
+use Rattle.machine.specs.Meanings.{Meaning, typed_word, an_end, call_typed, call_with, calls, calls_with, ends, fitting, if_fits, view_bound, view_named}
 use Rattle.machine.specs.State.{Names, named as bound_to}
-use Rattle.machine.specs.Typing.{Typing, before}
+use Rattle.machine.specs.Typing.{Typing, before, go_on, is_last, typed_words}
 use Rattle.machine.specs.Views.{shape_at}
-use Rattle.session.specs.Environment.{bound_at, named}
-use Rattle.session.specs.Following.{HasCalls, a_call}
+use Rattle.session.specs.declared.bound.Bound.{Bound as Held}
+use Rattle.session.specs.declared.bound.Bound.TheVariants as held
+use Rattle.session.specs.Environment.{Entries, bound_at, named}
+use Rattle.session.specs.Following.{HasCalls, a_call, a_step}
+use Rattle.session.specs.Targets.{shape_of}
 use Rattle.session.proofs.NameLemmas.{named_bound, same_text}
 
-module _ (world : World) (nodes : List Made) (names : List (List ℕ × ℕ)) (on : Shape) (word : OnOther) where
+module _ (world : World) (nodes : List Made) (names : Entries) (on : Shape) (word : OnOther) where
   abbrev by_text : List ℕ → Result Meaning Fault
   by_text text = if_fits (call_with world on word) (view_named (named nodes names) text)
 
@@ -43,7 +48,7 @@ module _ (world : World) (nodes : List Made) (names : List (List ℕ × ℕ)) (o
   no_name text is = ap (λ (o : Option (List ℕ)). if_fits (call_with world on word) (if_fits (λ name. view_bound (bound_to (named nodes names) name)) (fitting o))) is
 
   module _ (name text : List ℕ) (is : Some name ≡ name_in text) where
-    by_name : (found : Option ℕ) → lookup (same_text name) names ≡ found → if_fits (call_with world on word) (view_bound (option_map (bound_at nodes) found)) ≡ by_text text
+    by_name : (found : Option Held) → lookup (same_text name) names ≡ found → if_fits (call_with world on word) (view_bound (option_map (bound_at nodes) found)) ≡ by_text text
     by_name found e =
         ap (λ o. if_fits (call_with world on word) (view_bound o)) (sym (named_bound nodes names name ∙ ap (option_map (bound_at nodes)) e))
         ∙ ap (λ (o : Option (List ℕ)). if_fits (call_with world on word) (if_fits (λ name. view_bound (bound_to (named nodes names) name)) (fitting o))) is
@@ -51,10 +56,15 @@ module _ (world : World) (nodes : List Made) (names : List (List ℕ × ℕ)) (o
     pub name_unbound : lookup (same_text name) names ≡ None → Err fault.Name ≡ by_text text
     name_unbound e = by_name None e
 
-    pub name_bound : (n : ℕ) (b : Bool) (shape : Shape) → lookup (same_text name) names ≡ Some n → b ≡ fits_with on word shape → shape ≡ shape_at world (view_at nodes n)
+    -- an iterator is no view
+    pub name_iterates : (it : Held) → lookup (same_text name) names ≡ Some it → ((n : ℕ) → it ≡ held.View n → ⊥) → Err fault.Call ≡ by_text text
+    name_iterates (held.View n) e never = absurd (never n refl)
+    name_iterates (held.Iterator seat) e never = by_name (Some (held.Iterator seat)) e
+
+    pub name_bound : (n : ℕ) (b : Bool) (shape : Shape) → lookup (same_text name) names ≡ Some (held.View n) → b ≡ fits_with on word shape → shape ≡ shape_at world (view_at nodes n)
         → cond b (Ok (ends (calls_with word (view_at nodes n)))) (Err fault.Call) ≡ by_text text
     name_bound n b shape e fits of =
-        ap (λ (x : Bool). an_end x (calls_with word (view_at nodes n))) (fits ∙ ap (fits_with on word) of) ∙ by_name (Some n) e
+        ap (λ (x : Bool). an_end x (calls_with word (view_at nodes n))) (fits ∙ ap (fits_with on word) of) ∙ by_name (Some (held.View n)) e
 
 -- ---- calls with arguments that were read
 
@@ -109,9 +119,15 @@ module _ (on : Shape) (form : CallForm) (had : HasCalls on form) (known : is_kno
   pub two_had : {X Y : Type 0} (make : X → Y → Call) → ((x : X) (y : Y) → form_of_call (make x y) ≡ form) → (x : Option X) (y : Option Y) (it : Option Call) → it ≡ option_and_then (λ x. option_map (make x) y) x → Had it
   two_had make is x y it e = subst Had (sym e) (had_two make is x y)
 
--- a step before the rest leaves the fault of the rest
-pub err_before : (it : Result Asked Refusal) (t : Result Typing Fault) → result_err (before it t) ≡ result_err t
-err_before it (Err why) = refl
-err_before it (Ok t) = refl
+-- a step before the rest leaves the shape to which this leads, or its fault
+pub shape_before : (it : Result Asked Refusal) (t : Result Typing Fault) → shape_of (before it t) ≡ shape_of t
+shape_before it (Err why) = refl
+shape_before it (Ok t) = refl
 
-pub ruleset typing = err_before
+pub ruleset typing = shape_before
+
+-- words lead where those behind their first word do, which is a step
+pub shape_behind : (world : World) (names : Names) (for : Purpose) (on next : Shape) (part : Part) (parts : List Part) (it : Option (Result Asked Refusal)) → IsSome it → typed_word known world names for (is_last parts) on part ≡ a_step it (Some next)
+    → shape_of (typed_words known world names for on (part ∷ parts)) ≡ shape_of (typed_words known world names for next parts)
+shape_behind world names for on next part parts None some e = cc
+shape_behind world names for on next part parts (Some it) some e = ap (λ (m : Result Meaning Fault). shape_of (go_on on (λ x. typed_words known world names for x parts) m)) e ∙ shape_before it (typed_words known world names for next parts)

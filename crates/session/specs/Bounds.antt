@@ -1,10 +1,13 @@
 -- How often a line asks the bases: an upper bound, where there is one.
-use Rattle.std.specs.Prelude.{ℕ, ◌+◌, ◌≤◌, ◌&&◌, ◌||◌, if◌then◌else◌, List, Option, None, Some, Result, Ok, Err}
+use Rattle.std.specs.Prelude.{ℕ, ◌+◌, ◌≤◌, ◌&&◌, ◌||◌, if◌then◌else◌, List, drop, Option, None, Some, Result, Ok, Err}
+use Rattle.cursor_seat.specs.Seats.{hidden_ahead}
 use Rattle.machine.specs.Bases.{World}
+use Rattle.machine.specs.Iterating.{iterator_word}
+use Rattle.machine.specs.Iterators.{Iterator}
 use Rattle.machine.specs.Meanings.{Ending, calls, calls_for, calls_with, makes, shows}
 use Rattle.machine.specs.Parts.{Part}
 use Rattle.machine.specs.State.{Bound, State, named, to_iterator, to_view}
-use Rattle.machine.specs.Views.{View, shape_at}
+use Rattle.machine.specs.Views.{View, candidates, shape_at}
 use Rattle.read_chain.specs.ListLookUps.{is_asked_at_once}
 use Rattle.read_chain.specs.Reads.{is_looked_up}
 use Rattle.script_text.specs.Lines.{line_of}
@@ -13,6 +16,8 @@ use Rattle.script_text.specs.Trees as line
 use Rattle.session.specs.Targets.{Target, leads, nothing, stops, target}
 use Rattle.vocabulary.specs.declared.calls.Call.{Call}
 use Rattle.vocabulary.specs.declared.lines.Fault.{Fault}
+use Rattle.vocabulary.specs.declared.lines.OnIterator.{OnIterator}
+use Rattle.vocabulary.specs.declared.lines.OnIterator.TheVariants.{Remove}
 use Rattle.vocabulary.specs.declared.lines.Purpose.TheVariants as purpose
 use Rattle.vocabulary.specs.Shapes.{is_keyed}
 use Rattle.write_chain.specs.Calls.{is_forced, is_removed_at_once, is_single}
@@ -43,10 +48,16 @@ most_for world (Ok (leads v ending)) = most_at world v ending
 most_for world (Ok nothing) = Some 0
 most_for world (Ok (stops why)) = Some 0
 
+-- an iterator passes the hidden candidates on its way, and asks once more; and it removes in one call
+abbrev pub most_of_iterator : World → Iterator → Option OnIterator → Option ℕ
+most_of_iterator world it None = Some 0
+most_of_iterator world it (Some Remove) = Some 1
+most_of_iterator world it (Some word) = Some (hidden_ahead (drop it.passed (candidates world it.view)) + 1)
+
 -- the words behind a name, with what it stands for
 abbrev pub most_for_words : State → Option Bound → List Part → Option ℕ
 most_for_words state None parts = Some 0
-most_for_words state (Some (to_iterator it)) parts = Some 0
+most_for_words state (Some (to_iterator it)) parts = most_of_iterator state.bases it (iterator_word parts)
 most_for_words state (Some (to_view v)) parts = most_for state.bases (target state.bases state.names state.handles purpose.Reply v parts)
 
 -- a line asks nothing but where a reply is asked for

@@ -8,7 +8,7 @@ use Rattle.session.specs.declared.following.End.{End}
 use Rattle.session.specs.declared.following.End.TheVariants as end
 use Rattle.session.specs.declared.typing.Typed.{Typed}
 use Rattle.session.specs.declared.typing.Typed.TheVariants as typed
-use Rattle.session.specs.Environment.{named}
+use Rattle.session.specs.Environment.{Entries, named}
 use Rattle.session.specs.Targets.{Target, leads, stops, target}
 use Rattle.vocabulary.specs.declared.calls.Call.{Call}
 use Rattle.vocabulary.specs.declared.calls.CallForm.{CallForm}
@@ -95,7 +95,7 @@ end_in store (Ok (end.With n word other)) = leads (view_in store n) (calls_with 
 end_in store (Err refusal) = stops refusal
 
 -- what words lead to from a node, the first step of which has this number, where names stand for nodes
-abbrev pub target_in : Stored → ℕ → List (List ℕ × ℕ) → Purpose → ℕ → List Part → Result Target Fault
+abbrev pub target_in : Stored → ℕ → Entries → Purpose → ℕ → List Part → Result Target Fault
 target_in store number names for n parts = target store.world (named store.nodes names) number for (view_in store n) parts
 
 -- ---- the way
@@ -113,7 +113,7 @@ Steps s now node it (Ok next) = Stepped s now node it next
 Steps s now node it (Err refusal) = (now ≡ s) × ((number : ℕ) → step_over s.world number (view_in s node) it ≡ refused refusal) × (refusal ≢ NoMemory)
 
 -- The words so far led from one node to another: what is left leads where all of them lead.
-pub record Followed (names : List (List ℕ × ℕ)) (for : Purpose) (before now : Stored) (head node : ℕ) (parts rest : List Part) : Type 0 where
+pub record Followed (names : Entries) (for : Purpose) (before now : Stored) (head node : ℕ) (parts rest : List Part) : Type 0 where
   pub world : now.world ≡ before.world
   pub front : without_temporary now ≡ without_temporary before
   pub within : now.lasting ≤ length now.nodes

@@ -1,11 +1,13 @@
 pub mod KnownShapes
 pub mod Replying
 pub mod Executing
+pub mod Later
 pub mod Coming
 pub mod Codes
 pub mod Environment
 pub mod Targets
 pub mod Bounds
+pub mod Iterating
 pub mod Following
 pub mod Binding
 pub mod Printing

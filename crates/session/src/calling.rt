@@ -58,6 +58,7 @@ pub fn call_with_on<S: Sink, L: Ledger>(
     ensures { Came result store.old store.new (λ state. ended state (calls_with word (view_in store.old other)) (view_in store.old n)) (S.taken out.old) (S.taken out.new) (S.faults out.old) (S.faults out.new) }
 {
     let _base = store.base_of(n);
+    let _other_base = store.base_of(other);
     let answer = write_chain::call_with(store, n, word, other, steps);
     tell(answer, reply, out)
 }

@@ -1,38 +1,44 @@
-//! The bases of a session, and the names of views of them.
-ghost use Rattle.std.specs.Prelude.{◌≡◌, ◌≤◌, ◌^◌, ◌-◌, true, length, IfErr, IfSome, OnErr, OnOk};
+//! The bases of a session, and the names of views of them and of iterators.
+ghost use Rattle.std.specs.Prelude.{max, false, ◌+◌, ◌≡◌, ◌≤◌, ◌^◌, ◌-◌, true, length, IfErr, IfSome, OnErr, OnOk};
 ghost use Rattle.script_text.specs.Names.{kind_text};
-ghost use Rattle.session.specs.Binding.{Answers, IsFull, KeptNode, Keeps};
+ghost use Rattle.session.specs.Binding.{IsFull, IsSeatOver, KeepsNodes, view_bound};
 ghost use Rattle.session.specs.Bounds.{AsksAtMost, most_for_words};
 ghost use Rattle.session.specs.Executing.{Executed};
-ghost use Rattle.session.specs.Following.{parts_in};
+ghost use Rattle.session.specs.Following.{IsEnd, parts_in};
 ghost use Rattle.machine.specs.Languages.{known, only_if};
 ghost use Rattle.machine.specs.Lines.{eval_of};
-ghost use Rattle.machine.specs.Naming.{let_of, new_of};
+ghost use Rattle.machine.specs.Naming.{it_of, let_of, new_of};
 ghost use Rattle.machine.specs.State.{empty, named as bound_to};
 ghost use Rattle.vocabulary.specs.Known as language;
 ghost use Rattle.vocabulary.specs.Kinds as kinds;
 ghost use Rattle.machine.specs.RowCounts.{ChangesUpTo};
+ghost use Rattle.base_store.specs.Stored.{with_kept};
+ghost use Rattle.vocabulary.specs.Limits.{most_handles};
 
+use crate::bound::Bound;
 use crate::evaluating::{evaluate, say_fault};
 use crate::faults::ExecFault;
 use crate::following::{End, follow};
+use crate::iterating::{asked_of, turn};
+use crate::names::IndexMap;
 use crate::printing::known_shape;
 use crate::replies::{Reply, refuse, say};
-use crate::typing::typing_fault;
-use base_store::{AnyRef, Store};
+use crate::typing::{iterator_fault, type_words};
+use base_store::Store;
+use cursor_seat::Seat;
 use elem::{Sink, Steps, Word};
-use indexmap::IndexMap;
+use hash_seed::Seed;
 use script_text::{KindName, Part};
 use std::alloc::Global;
 use std::marker::Model;
 use std::sync::ledger::Ledger;
 use vocabulary::{Kind, Purpose, Refusal, is_known_kind, kind_named};
 
-/// Bases, and names that stand for views of them.
+/// Bases, and names that stand for views of them and iterators over these.
 #[derive(Drop)]
 pub struct Environment {
     store: Store,
-    names: IndexMap<Word, AnyRef>,
+    names: IndexMap<Word, Bound>,
 }
 
 impl Model for Environment {
@@ -53,13 +59,13 @@ impl Model for Environment {
 }
 
 impl Environment {
-    /// An environment in which nothing is there. It takes no memory.
-    pub fn empty(alloc: Global) -> Environment
+    /// An environment in which nothing is there, and what comes is hashed by a seed. It takes no memory.
+    pub fn with_hasher(alloc: Global, seed: Seed) -> Environment
         ensures { result ≡ empty }
     {
         Environment {
-            store: Store::empty(alloc),
-            names: IndexMap::new(alloc),
+            store: Store::with_hasher(alloc, seed),
+            names: IndexMap::with_hasher(alloc, seed),
         }
     }
 
@@ -81,7 +87,8 @@ impl Environment {
         }
         match self.store.new_base(kind) {
             Ok(node) => {
-                let _ = self.names.insert(name, node);
+                self.store.is_lawful(node);
+                let _ = self.names.insert(name, Bound::View(node));
                 say(reply, out, b"ok")
             }
             Err(refusal) => refuse(reply, out, refusal),
@@ -101,13 +108,15 @@ impl Environment {
         requires { length line.now ≤ 1024 }
         ensures { Executed result self.old self.new (let_of known self.old name (bound_to self.old.names head) (parts_in line.now parts.now)) (S.taken out.old) (S.taken out.new) (S.faults out.old) (S.faults out.new) }
     {
-        let Some(head) = self.names.get(&head) else {
+        let Some(bound) = self.names.get(&head) else {
             return say(reply, out, b"?name");
         };
-        let head = *head;
+        let Bound::View(head) = *bound else {
+            return say(reply, out, b"?call");
+        };
         let shape = known_shape(&self.store, head);
-        let fault = typing_fault(&self.store, &self.names, Purpose::Name, shape, line, parts);
-        if let Some(fault) = fault {
+        let typed = type_words(&self.store, &self.names, Purpose::Name, shape, line, parts);
+        if let Err(fault) = typed {
             return say_fault(reply, out, fault);
         }
         let end = follow(
@@ -118,8 +127,69 @@ impl Environment {
             line,
             parts,
         );
-        let kept = keep_end(&mut self.store, &mut self.names, name, &end, parts.len());
-        tell_kept(kept, reply, out)
+        let bound = view_of(&end);
+        let handles = handles_of(parts.len());
+        let is_full = self.names.reserve(1).is_err();
+        match keep_bound(&mut self.store, &bound, is_full, handles) {
+            Ok(bound) => {
+                self.store.is_lawful(head);
+                let _ = self.names.insert(name, bound);
+                say(reply, out, b"ok")
+            }
+            Err(refusal) => refuse(reply, out, refusal),
+        }
+    }
+
+    /// Gives a name to an iterator over the view that the words behind a name lead to.
+    pub fn iterate<S: Sink>(
+        &mut self,
+        name: Word,
+        head: Word,
+        line: &[u8],
+        parts: &[Part],
+        reply: &mut Reply,
+        out: &mut S,
+    ) -> Result<(), ExecFault>
+        requires { length line.now ≤ 1024 }
+        ensures { Executed result self.old self.new (it_of known self.old name (bound_to self.old.names head) (parts_in line.now parts.now)) (S.taken out.old) (S.taken out.new) (S.faults out.old) (S.faults out.new) }
+    {
+        let Some(bound) = self.names.get(&head) else {
+            return say(reply, out, b"?name");
+        };
+        let Bound::View(head) = *bound else {
+            return say(reply, out, b"?call");
+        };
+        let shape = known_shape(&self.store, head);
+        let typed = type_words(
+            &self.store,
+            &self.names,
+            Purpose::Iterator,
+            shape,
+            line,
+            parts,
+        );
+        if let Some(fault) = iterator_fault(&typed) {
+            return say_fault(reply, out, fault);
+        }
+        let end = follow(
+            &mut self.store,
+            &self.names,
+            head,
+            Purpose::Iterator,
+            line,
+            parts,
+        );
+        let bound = seat_over(&self.store, &end);
+        let handles = parts.len() + 1;
+        let is_full = self.names.reserve(1).is_err();
+        match keep_bound(&mut self.store, &bound, is_full, handles) {
+            Ok(bound) => {
+                self.store.is_lawful(head);
+                let _ = self.names.insert(name, bound);
+                say(reply, out, b"ok")
+            }
+            Err(refusal) => refuse(reply, out, refusal),
+        }
     }
 
     /// Evaluates the words behind a name.
@@ -137,20 +207,24 @@ impl Environment {
         ensures executed { Executed result self.old self.new (eval_of known self.old head (bound_to self.old.names head) (parts_in line.now parts.now)) (S.taken out.old) (S.taken out.new) (S.faults out.old) (S.faults out.new) }
         ensures asked { AsksAtMost (most_for_words self.old (bound_to self.old.names head) (parts_in line.now parts.now)) steps.old steps.new }
     {
-        let Some(head) = self.names.get(&head) else {
+        let Some(bound) = self.names.get(&head) else {
             return say(reply, out, b"?name");
         };
-        let head = *head;
-        evaluate(
-            &mut self.store,
-            &self.names,
-            head,
-            line,
-            parts,
-            reply,
-            out,
-            steps,
-        )
+        match *bound {
+            Bound::View(node) => {
+                let store = &mut self.store;
+                let result = evaluate(store, &self.names, node, line, parts, reply, out, steps);
+                self.store.is_lawful(node);
+                result
+            }
+            Bound::Iterator(seat) => {
+                let mut seat = seat;
+                let word = asked_of(parts);
+                let result = turn(&mut self.store, &mut seat, word, reply, out, steps);
+                let _ = self.names.insert(head, Bound::Iterator(seat));
+                result
+            }
+        }
     }
 }
 
@@ -167,57 +241,65 @@ fn known_kind(name: &KindName) -> Option<Kind>
     }
 }
 
-/// Makes the view at an end last and gives it a name, for as many handles as there are steps and at least one. Where
-/// this is refused, the nodes on the way there end.
-fn keep_end(
-    store: &mut Store,
-    names: &mut IndexMap<Word, AnyRef>,
-    name: Word,
-    end: &Result<End, Refusal>,
-    steps: usize,
-) -> Result<(), Refusal>
-    ensures { Keeps result end.now store.old store.new names.old.entries names.new.entries name steps }
+/// How many handles a view takes to which so many steps lead.
+fn handles_of(steps: usize) -> usize
+    ensures { result ≡ max 1 steps }
 {
-    let kept = match end {
-        Ok(end) => keep_node(store, names, name, end.node(), steps.max(1)),
+    steps.max(1)
+}
+
+/// The view at an end, to be bound to a name.
+fn view_of(end: &Result<End, Refusal>) -> Result<Bound, Refusal>
+    ensures { result ≡ view_bound end.now }
+{
+    match end {
+        Ok(end) => Ok(Bound::View(end.node())),
+        Err(refusal) => Err(*refusal),
+    }
+}
+
+/// An iterator over the view at an end, to be bound to a name.
+fn seat_over(store: &Store, end: &Result<End, Refusal>) -> Result<Bound, Refusal>
+    requires { IsEnd store.now end.now }
+    ensures { IsSeatOver store.now end.now result }
+{
+    match end {
+        Ok(end) => Ok(Bound::Iterator(Seat::over(store, end.node()))),
+        Err(refusal) => Err(*refusal),
+    }
+}
+
+/// Makes the temporary nodes last, for so many handles, where there is room for a name, and gives what stands at an end.
+/// Where this is refused, the nodes on the way there end.
+fn keep_bound(
+    store: &mut Store,
+    bound: &Result<Bound, Refusal>,
+    is_full: bool,
+    handles: usize,
+) -> Result<Bound, Refusal>
+    ensures { KeepsNodes result bound.now is_full store.old store.new handles }
+{
+    let kept = match bound {
+        Ok(_) => keep(store, is_full, handles),
         Err(refusal) => Err(*refusal),
     };
-    if kept.is_err() {
-        store.drop_temporary();
-    }
-    kept
-}
-
-/// Says `ok` where an end was kept, and why not where it was not.
-fn tell_kept<S: Sink>(
-    kept: Result<(), Refusal>,
-    reply: &mut Reply,
-    out: &mut S,
-) -> Result<(), ExecFault>
-    ensures { Answers kept result (S.taken out.old) (S.taken out.new) (S.faults out.old) (S.faults out.new) }
-{
     match kept {
-        Ok(()) => say(reply, out, b"ok"),
-        Err(refusal) => refuse(reply, out, refusal),
+        Ok(()) => *bound,
+        Err(refusal) => {
+            store.drop_temporary();
+            Err(refusal)
+        }
     }
 }
 
-/// Makes the temporary nodes last and gives a name to a node, for so many handles.
-fn keep_node(
-    store: &mut Store,
-    names: &mut IndexMap<Word, AnyRef>,
-    name: Word,
-    node: AnyRef,
-    handles: usize,
-) -> Result<(), Refusal>
-    ensures ok { OnOk result (KeptNode store.old store.new names.old.entries names.new.entries name node handles) }
-    ensures err { OnErr result ((store.new ≡ store.old) × (names.new.entries ≡ names.old.entries)) }
+/// Makes the temporary nodes last, for so many handles, where there is room for a name.
+fn keep(store: &mut Store, is_full: bool, handles: usize) -> Result<(), Refusal>
+    ensures ok { OnOk result ((store.new ≡ with_kept store.old handles) × (store.old.handles + handles ≤ most_handles) × (is_full ≡ false)) }
+    ensures err { OnErr result (store.new ≡ store.old) }
     ensures cause { IfErr result (λ why. IsFull store.old handles why) }
 {
-    if names.reserve(1).is_err() {
+    if is_full {
         return Err(Refusal::NoMemory);
     }
-    store.keep(handles)?;
-    let _ = names.insert(name, node);
-    Ok(())
+    store.keep(handles)
 }

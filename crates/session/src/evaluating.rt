@@ -13,15 +13,16 @@ ghost use Rattle.machine.specs.Outcomes.{fault_text};
 ghost use Rattle.machine.specs.RowCounts.{ChangesUpTo};
 ghost use Rattle.machine.specs.Views.{shape_at};
 
+use crate::bound::Bound;
 use crate::calling::{call_on, call_with_on};
 use crate::faults::ExecFault;
 use crate::following::{End, follow};
+use crate::names::IndexMap;
 use crate::printing::{known_shape, print};
 use crate::replies::{Reply, refuse, say};
-use crate::typing::{Typed, type_word, typing_fault};
+use crate::typing::{Typed, type_word, type_words};
 use base_store::{AnyRef, Store};
 use elem::{Sink, Steps, Word};
-use indexmap::IndexMap;
 use script_text::Part;
 use std::sync::ledger::Ledger;
 use vocabulary::{Fault, Purpose, Refusal};
@@ -30,7 +31,7 @@ use vocabulary::{Fault, Purpose, Refusal};
 /// stands alone is typed once.
 pub fn evaluate<S: Sink, L: Ledger>(
     store: &mut Store,
-    names: &IndexMap<Word, AnyRef>,
+    names: &IndexMap<Word, Bound>,
     head: AnyRef,
     line: &[u8],
     parts: &[Part],
@@ -76,7 +77,7 @@ pub fn evaluate<S: Sink, L: Ledger>(
 /// The same, word by word: all words are typed before the first step is made.
 fn evaluate_words<S: Sink, L: Ledger>(
     store: &mut Store,
-    names: &IndexMap<Word, AnyRef>,
+    names: &IndexMap<Word, Bound>,
     head: AnyRef,
     line: &[u8],
     parts: &[Part],
@@ -93,7 +94,7 @@ fn evaluate_words<S: Sink, L: Ledger>(
     ensures came { Came result store.old store.new (λ state. concluded state (target_in store.old store.old.handles names.now.entries purpose.Reply head (parts_in line.now parts.now))) (S.taken out.old) (S.taken out.new) (S.faults out.old) (S.faults out.new) }
     ensures asked { AsksAtMost (most_for store.old.world (target_in store.old store.old.handles names.now.entries purpose.Reply head (parts_in line.now parts.now))) steps.old steps.new }
 {
-    if let Some(fault) = typing_fault(
+    if let Err(fault) = type_words(
         store,
         names,
         Purpose::Reply,

@@ -7,11 +7,12 @@ ghost use Rattle.machine.specs.Languages.{known};
 ghost use Rattle.machine.specs.Typing.{typed_words};
 ghost use Rattle.machine.specs.Views as view;
 
+use crate::bound::Bound;
+use crate::names::IndexMap;
 use crate::taking::take_step;
 use crate::typing::{Typed, type_word};
 use base_store::{AnyRef, Store};
 use elem::Word;
-use indexmap::IndexMap;
 use script_text::Part;
 use vocabulary::{Call, OnOther, Purpose, Refusal};
 
@@ -42,7 +43,7 @@ impl End {
 /// The refusal of the first step that is refused, or of its argument.
 pub fn follow(
     store: &mut Store,
-    names: &IndexMap<Word, AnyRef>,
+    names: &IndexMap<Word, Bound>,
     head: AnyRef,
     purpose: Purpose,
     line: &[u8],

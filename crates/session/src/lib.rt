@@ -2,11 +2,14 @@
 #![tactic(auto)]
 
 mod arguments;
+mod bound;
 mod calling;
 mod environment;
 mod evaluating;
 mod faults;
 mod following;
+mod iterating;
+mod names;
 mod printing;
 mod replies;
 mod session;

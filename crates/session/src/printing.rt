@@ -50,7 +50,7 @@ pub fn known_shape(store: &Store, n: AnyRef) -> Shape
 }
 
 /// Does nothing; its contract says that a view shows elements, or keys and their values.
-fn items_fit(store: &Store, n: AnyRef)
+pub fn items_fit(store: &Store, n: AnyRef)
     requires { n < length store.now.nodes }
     ensures { AreKnown (shown store.now.world (view_in store.now n)) }
 {
@@ -106,7 +106,7 @@ fn separator(is_first: bool) -> &'static [u8]
 }
 
 /// Writes an element, or a key and its value.
-fn write_item<S: Sink>(item: &Item, reply: &mut Reply, out: &mut S)
+pub fn write_item<S: Sink>(item: &Item, reply: &mut Reply, out: &mut S)
     requires { is_known_item item.now ≡ true }
     ensures { Goes (S.taken out.old) (S.taken out.new) (S.faults out.old) (S.faults out.new) reply.old reply.new (text.item_text item.now) }
 {

@@ -138,7 +138,7 @@ fn say_optional<S: Sink>(
 }
 
 /// Says `true` or `false`.
-fn say_truth<S: Sink>(reply: &mut Reply, out: &mut S, truth: bool) -> Result<(), ExecFault>
+pub fn say_truth<S: Sink>(reply: &mut Reply, out: &mut S, truth: bool) -> Result<(), ExecFault>
     ensures { Said result (S.taken out.old) (S.taken out.new) (S.faults out.old) (S.faults out.new) (truth_text truth ++ 10 ∷ []) }
 {
     if truth {

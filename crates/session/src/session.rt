@@ -15,6 +15,7 @@ use crate::faults::ExecFault;
 use crate::replies::{Reply, say};
 use arrayvec::ArrayVec;
 use elem::{Sink, Steps};
+use hash_seed::Seed;
 use script_text::{Line, Part, read_line};
 use std::alloc::Global;
 use std::marker::Model;
@@ -44,12 +45,19 @@ impl Model for Session {
 }
 
 impl Session {
-    /// A session in which nothing is there. It takes no memory.
+    /// A session in which nothing is there, under the fixed seed. It takes no memory.
     pub fn empty(alloc: Global) -> Session
         ensures { result ≡ empty }
     {
+        Session::with_hasher(alloc, Seed::fixed())
+    }
+
+    /// A session in which nothing is there. Names and rows are to be hashed by the seed. It takes no memory.
+    pub fn with_hasher(alloc: Global, seed: Seed) -> Session
+        ensures { result ≡ empty }
+    {
         Session {
-            environment: Environment::empty(alloc),
+            environment: Environment::with_hasher(alloc, seed),
             parts: ArrayVec::new(),
             reply: Reply::new(),
         }
@@ -61,7 +69,7 @@ impl Session {
     ///
     /// `WriteFault` where the sink failed: a front of the reply may have gone there, and the line was executed or not.
     /// `NoMemory` where memory ran out: nothing was written and nothing has changed. No line wants memory but those that
-    /// make a base, give a name to a view, leave more rows, or add or remove what another view shows.
+    /// make a base, give a name to a view or an iterator, leave more rows, or add or remove what another view shows.
     pub fn exec<S: Sink, L: Ledger>(
         &mut self,
         line: &[u8],
@@ -101,7 +109,11 @@ impl Session {
                 self.environment
                     .bind(name, head, line, parts, &mut self.reply, out)
             }
-            Line::It { .. } => say(&mut self.reply, out, b"?call"),
+            Line::It { name, head } => {
+                let parts = self.parts.as_slice();
+                self.environment
+                    .iterate(name, head, line, parts, &mut self.reply, out)
+            }
             Line::Eval { head } => {
                 let parts = self.parts.as_slice();
                 self.environment

@@ -1,15 +1,16 @@
 //! The typing of the words behind a name.
 ghost use Rattle.std.specs.Prelude.{◌≡◌, ◌≤◌, ℕ, true, List, length, IfOk, IfSome};
 ghost use Rattle.std.specs.Option.{option_map, option_and_then};
-ghost use Rattle.std.specs.Result.{result_err};
 ghost use Rattle.base_store.specs.Stored.{Stored};
 ghost use Rattle.script_text.specs.Parts.{part_in};
 ghost use Rattle.session.specs.Environment.{NamesWithin, named};
 ghost use Rattle.session.specs.Following as spec;
 ghost use Rattle.session.specs.Following.{HasCalls, IsTyped, asked, meant_in, parts_in};
+ghost use Rattle.session.specs.Targets.{iterator_fault, shape_of};
 ghost use Rattle.machine.specs.Languages.{known, only_if};
 ghost use Rattle.machine.specs.Meanings as meaning;
 ghost use Rattle.machine.specs.Parts.{text_at};
+ghost use Rattle.machine.specs.Typing as typing;
 ghost use Rattle.machine.specs.Typing.{typed_words};
 ghost use Rattle.vocabulary.specs.Fits.{fits};
 ghost use Rattle.vocabulary.specs.Known as table;
@@ -20,9 +21,10 @@ ghost use Rattle.vocabulary.specs.declared.calls.Call.TheVariants as call;
 ghost use Rattle.vocabulary.specs.declared.shapes.Shape.{Shape as AnyShape};
 
 use crate::arguments::{fits_step, read_index, read_name};
+use crate::bound::Bound;
+use crate::names::IndexMap;
 use base_store::{AnyRef, Store};
 use elem::{Elem, Word, read_elem};
-use indexmap::IndexMap;
 use script_text::Part;
 use vocabulary::{
     Action, Call, CallForm, Fault, OnElement, OnIndex, OnIndexed, OnOther, OnPair, Purpose, Shape,
@@ -39,19 +41,23 @@ pub enum Typed {
     With(OnOther, AnyRef),
 }
 
-/// The first fault of the words on a view of a shape, from left to right.
+/// The shape of the view to which the words lead from a view of a shape.
+///
+/// # Errors
+///
+/// The first fault of the words, from left to right.
 #[tactic(auto, using(crate::proofs::TypingLemmas::typing))]
-pub fn typing_fault(
+pub fn type_words(
     store: &Store,
-    names: &IndexMap<Word, AnyRef>,
+    names: &IndexMap<Word, Bound>,
     purpose: Purpose,
     shape: Shape,
     line: &[u8],
     parts: &[Part],
-) -> Option<Fault>
+) -> Result<Shape, Fault>
     requires names { NamesWithin (length store.now.nodes) names.now.entries }
     requires short { length line.now ≤ 1024 }
-    ensures { result ≡ result_err (typed_words known store.now.world (named store.now.nodes names.now.entries) purpose shape (parts_in line.now parts.now)) }
+    ensures { result ≡ shape_of (typed_words known store.now.world (named store.now.nodes names.now.entries) purpose shape (parts_in line.now parts.now)) }
 {
     let mut on = shape;
     let mut rest = parts;
@@ -60,15 +66,37 @@ pub fn typing_fault(
         match &typed {
             Ok(word) => {
                 let Typed::Step(_, next) = word else {
-                    return None;
+                    return Ok(on);
                 };
                 on = *next;
                 rest = more;
             }
-            Err(fault) => return Some(*fault),
+            Err(fault) => return Err(*fault),
         }
     }
-    None
+    Ok(on)
+}
+
+/// Why words give no iterator: their fault, or the shape of the view to which they lead.
+pub fn iterator_fault(typed: &Result<Shape, Fault>) -> Option<Fault>
+    ensures { result ≡ iterator_fault typed.now }
+{
+    match typed {
+        Ok(of) if iterates(*of) => None,
+        Ok(_) => Some(Fault::Call),
+        Err(fault) => Some(*fault),
+    }
+}
+
+/// Whether views of a shape give iterators.
+fn iterates(of: Shape) -> bool
+    ensures { result ≡ typing.iterates of }
+{
+    match of {
+        Shape::List | Shape::Set { .. } | Shape::Coll => true,
+        Shape::Rows(_) | Shape::Bag { .. } | Shape::Pieces => true,
+        _ => false,
+    }
 }
 
 /// Whether a call may stand where a word stands: last, in an expression that asks for a reply.
@@ -88,7 +116,7 @@ fn may_call(purpose: Purpose, is_last: bool) -> bool
 /// The first fault of its arguments, and `Call` where no such word with so many arguments has a meaning there.
 pub fn type_word(
     store: &Store,
-    names: &IndexMap<Word, AnyRef>,
+    names: &IndexMap<Word, Bound>,
     purpose: Purpose,
     is_last: bool,
     on: Shape,
@@ -137,7 +165,7 @@ fn type_step(on: Shape, a: &[u8], form: StepForm) -> Result<Typed, Fault>
 /// A known call of a form that views of the shape have, with its arguments, the first two of which are `a` and `b`.
 fn type_call(
     store: &Store,
-    names: &IndexMap<Word, AnyRef>,
+    names: &IndexMap<Word, Bound>,
     on: Shape,
     a: &[u8],
     b: &[u8],
@@ -163,7 +191,7 @@ fn type_call(
 /// A known call with the view of a name, on a shape that has it with the shape of that view.
 fn type_other(
     store: &Store,
-    names: &IndexMap<Word, AnyRef>,
+    names: &IndexMap<Word, Bound>,
     on: Shape,
     word: OnOther,
     text: &[u8],
@@ -176,10 +204,12 @@ fn type_other(
     let Some(name) = read_name(text) else {
         return Err(Fault::Call);
     };
-    let Some(other) = names.get(&name) else {
+    let Some(bound) = names.get(&name) else {
         return Err(Fault::Name);
     };
-    let other = *other;
+    let Bound::View(other) = *bound else {
+        return Err(Fault::Call);
+    };
     if fits_with(on, word, store.shape(other)) {
         Ok(Typed::With(word, other))
     } else {

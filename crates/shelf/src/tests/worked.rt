@@ -1,7 +1,7 @@
 //! Scripts, each with what it writes.
 
 /// A script, and its transcript.
-pub const WORKED: [(&[u8], &[u8]); 19] = [
+pub const WORKED: [(&[u8], &[u8]); 23] = [
     // An empty script.
     (b"", b""),
     // Every kind, and its order.
@@ -22,7 +22,7 @@ pub const WORKED: [(&[u8], &[u8]); 19] = [
     // A view with a name is live; what has no meaning in its place is refused.
     (
         b"new m LinkedHashMap\nlet k = m.keySet\nk.add(a)\nm.put(a, 1)\nk.contains(a)\nk\nlet m = k\nk.size\nlet z = m.size\nz\nlet q = r\nm.get([1 .. b])\nit i = k\nlet 1 = m\nm.containsAll(k-k)\nm.containsAll(j)\nm.containsAll(k)\n",
-        b"ok\nok\nUnsupportedOperationException\nnull\ntrue\n[a]\nok\n1\n?call\n?name\n?name\n?call\n?call\n?syntax\n?call\n?name\ntrue\n",
+        b"ok\nok\nUnsupportedOperationException\nnull\ntrue\n[a]\nok\n1\n?call\n?name\n?name\n?call\nok\n?syntax\n?call\n?name\ntrue\n",
     ),
     // A filter of values hides, puts in place, and clears what it shows.
     (
@@ -89,9 +89,29 @@ pub const WORKED: [(&[u8], &[u8]); 19] = [
         b"new s TreeSet\ns.add(1)\ns.add(2)\ns.add(3)\ns.add(4)\nlet w = s.within([2..3])\nw.clear\nw.clear\ns\ns.add(2)\ns.add(3)\nnew n ArrayList\nn.add(3)\nn.add(4)\nn.add(9)\nw.retainAll(n)\ns\ns.removeAll(n)\ns\ns.removeAll(n)\ns.clear\ns\n",
         b"ok\ntrue\ntrue\ntrue\ntrue\nok\nok\nok\n[1, 4]\ntrue\ntrue\nok\ntrue\ntrue\ntrue\ntrue\n[1, 3, 4]\ntrue\n[1]\nfalse\nok\n[]\n",
     ),
+    // Two views that show the same: lists in one order, sets, maps and bimaps in any.
+    (
+        b"new l ArrayList\nl.add(a)\nl.add(b)\nnew k ArrayList\nk.add(b)\nk.add(a)\nl.equals(k)\nlet r = k.reverse\nl.equals(r)\nnew s LinkedHashSet\ns.add(a)\ns.add(b)\nnew t TreeSet\nt.add(b)\ns.equals(t)\nt.add(a)\ns.equals(t)\nt.add(c)\ns.equals(t)\nt.equals(s)\nnew m LinkedHashMap\nm.put(a, 1)\nnew b HashBiMap\nb.put(a, 1)\nm.equals(b)\nb.equals(m)\nlet i = b.inverse\nb.equals(i)\nm.put(b, 2)\nb.equals(m)\nm.equals(l)\nl.equals(l)\n",
+        b"ok\ntrue\ntrue\nok\ntrue\ntrue\nfalse\nok\ntrue\nok\ntrue\ntrue\nok\ntrue\nfalse\ntrue\ntrue\ntrue\nfalse\nfalse\nok\nnull\nok\nnull\ntrue\ntrue\nok\nfalse\nnull\nfalse\n?call\ntrue\n",
+    ),
     // Lines that are refused, the longest path, and a last line without a newline.
     (
         b"foo bar\nq\nnew m LinkedHashMap\nm.first\nm.get([1..2])\nm.putAll(q)\nnew x Unknown\nnew l ArrayList\nlet x = l.reverse.reverse.reverse.reverse.reverse.reverse.reverse.reverse.reverse.reverse.reverse.reverse.reverse.reverse.reverse.reverse.reverse.reverse.reverse.reverse.reverse.reverse.reverse.reverse.reverse.reverse.reverse.reverse.reverse.reverse.reverse.reverse\nx.reverse\nx.filter(not(not(not(not(not(not(not(not(not(not(not(not(not(not(not(not(not(not(not(not(not(not(not(not(not(not(not(not(not(not(not(not(not(not(not(not(not(not(not(not(not(not(not(not(not(not(not(not(not(not(not(not(not(not(not(not(not(not(not(not(not(not(not(not(any)))))))))))))))))))))))))))))))))))))))))))))))))))))))))))))))))\nx.filter(not(not(not(not(not(not(not(not(not(not(not(not(not(not(not(not(not(not(not(not(not(not(not(not(not(not(not(not(not(not(not(not(not(not(not(not(not(not(not(not(not(not(not(not(not(not(not(not(not(not(not(not(not(not(not(not(not(not(not(not(not(not(not(not(any))))))))))))))))))))))))))))))))))))))))))))))))))))))))))))))))).foo\nm",
         b"?syntax\n?name\nok\n?call\n?call\n?name\n?call\nok\nok\n?limit\n?limit\n?call\n{}\n",
+    ),
+    // Iterators over a list: two of them, one's removal, and a row that comes beside them.
+    (
+        b"new l ArrayList\nl.add(1)\nl.add(2)\nl.add(3)\nit i = l\nit j = l.reverse\ni.remove\ni.next\ni.next\ni.remove\ni.remove\nl\ni.hasNext\nj.hasNext\nj.next\nj.remove\ni.next\ni.hasNext\ni.next\ni.remove\nl\nit j = l.transform(times(5))\nj.next\nl.set(0, 7)\nj.hasNext\nj.remove\nl\nl.add(4)\ni.next\ni.remove\nit i = l\ni.next\nl.add(5)\ni.remove\n",
+        b"ok\ntrue\ntrue\ntrue\nok\nok\nIllegalStateException\n1\n2\nok\nIllegalStateException\n[1, 3]\ntrue\nConcurrentModificationException\nConcurrentModificationException\nIllegalStateException\n3\nfalse\nNoSuchElementException\nok\n[1]\nok\n5\n1\nfalse\nok\n[]\ntrue\nConcurrentModificationException\nIllegalStateException\nok\n4\ntrue\nConcurrentModificationException\n",
+    ),
+    // Iterators over sets and maps, which a value that is replaced leaves fresh; a filter, and a view that allows nothing.
+    (
+        b"new s TreeSet\ns.add(5)\ns.add(7)\ns.add(1)\nit k = s.descending.filter(odd)\nk.next\nk.next\ns.add(5)\nk.remove\nk.next\nk.hasNext\nk.next\nit k = s.within([2..+\xE2\x88\x9E))\nk.next\nk.remove\ns\nk.next\nnew m LinkedHashMap\nm.put(a, 1)\nm.put(b, 2)\nm.put(c, 3)\nit e = m.entrySet\nit v = m.values\ne.next\nm.put(b, 8)\ne.next\ne.remove\ne.next\ne.hasNext\nm\nv.hasNext\nv.remove\nit u = m.keySet.unmodifiable\nu.remove\nu.next\nu.remove\nit f = m.filterValues(gt(1)).keySet\nf.hasNext\nf.next\nf.remove\ns.clear\nf.hasNext\nm.clear\nf.hasNext\n",
+        b"ok\ntrue\ntrue\ntrue\nok\n7\n5\nfalse\nUnsupportedOperationException\n1\nfalse\nNoSuchElementException\nok\n5\nok\n[1, 7]\n7\nok\nnull\nnull\nnull\nok\nok\na=1\n2\nb=8\nok\nc=3\nfalse\n{a=1, c=3}\nConcurrentModificationException\nIllegalStateException\nok\nUnsupportedOperationException\na\nUnsupportedOperationException\nok\ntrue\nc\nUnsupportedOperationException\nok\nfalse\nok\nConcurrentModificationException\n",
+    ),
+    // Pairs of a bimap; what is no iterator, what is no view, and a name that is bound again.
+    (
+        b"new b HashBiMap\nb.put(one, 1)\nb.put(two, 2)\nit p = b.inverse.entrySet\np.next\nb.put(one, 1)\np.next\np.remove\nb\np.hasNext\nb.put(two, 2)\nit p = b.values\nb.inverse.put(2, zwei)\np.next\nit q = b\nit q = b.keySet.size\nit q = b.within([2..1])\nit q = b.keySet.within([2..1])\nit q = r\nit q = p\nlet q = p\np\np.size\np.next(1)\np.next.next\nnew l ArrayList\nl.addAll(p)\nl.containsAll(p)\nl.addAll(r)\nnew t TreeMap\nit q = t.within([2..1])\nit q = t.within([2..1]).keySet\nit b = b.keySet\nb.next\nb\nb.next\nb.next\nb.remove\nb.hasNext\nnew b TreeSet\nb\n",
+        b"ok\nnull\nnull\nok\n1=one\n1\n2=two\nok\n{one=1}\nfalse\nnull\nok\ntwo\nConcurrentModificationException\n?call\n?call\n?call\n?call\n?name\n?call\n?call\n?call\n?call\n?call\n?call\nok\n?call\n?call\n?name\nok\n?call\nIllegalArgumentException\nok\none\n?call\nzwei\nNoSuchElementException\nok\nfalse\nok\n[]\n",
     ),
 ];

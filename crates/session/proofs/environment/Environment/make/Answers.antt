@@ -22,7 +22,7 @@ added : (g : given.Over) (c : goal.After-say-in-Ok g) → Added c.self.inside.st
 added g c =
     let room = ok_part c.reserve.result (sym c.if-is_err.ensures.value) c.reserve.ensures.ok in
     let entries = ok_at c.insert.result (c.insert.ensures.succeeds room) c.insert.ensures.entries in
-    record { settled = c.self.invariant; grown = c.in-Ok.ensures.ok; room = c.in-Ok.ensures.room; entered = rw (c.reserve.ensures.entries, c.in-Ok.ensures.number) at entries }
+    record { settled = c.self.invariant; grown = c.in-Ok.ensures.ok; room = c.in-Ok.ensures.room; entered = rw (c.reserve.ensures.entries, c.in-Ok.ensures.number) at entries; tell = c.is_lawful.ensures.tell }
 
 pub invariant_of-self-in-Ok : goal.invariant_of-self-in-Ok
 invariant_of-self-in-Ok g c = settled_more _ _ _ _ _ _ (added g c)

@@ -6,14 +6,14 @@ use Rattle.session.specs.Bounds.{most_asked, most_for_words}
 use Rattle.session.specs.Following.{parts_in}
 use Rattle.machine.specs.Languages.{known, only_if}
 use Rattle.machine.specs.Lines.{eval_of}
-use Rattle.machine.specs.Naming.{let_of, new_of}
+use Rattle.machine.specs.Naming.{it_of, let_of, new_of}
 use Rattle.machine.specs.Outcomes.{says}
 use Rattle.machine.specs.State.{State, named as bound_to}
 use Rattle.vocabulary.specs.Known.{is_known_kind}
 use Rattle.vocabulary.specs.Kinds.{kind_named}
 use Rattle.session.proofs.BoundLemmas.{asks_nothing, line_bound, same_bound}
 use Rattle.session.proofs.NameLemmas.{executed_said}
-use Rattle.session.proofs.SessionLemmas.{executed_blank, executed_from, on_blank, on_long, on_syntax, on_it, on_new, on_let, on_eval, short_let, short_eval}
+use Rattle.session.proofs.SessionLemmas.{executed_blank, executed_from, on_blank, on_long, on_syntax, on_it, on_new, on_let, on_eval, short_let, short_it, short_eval}
 use Rattle.session.proofs.session.Session.execute.Goals as goal
 
 pub returns-in-Blank-clause-executed : goal.returns-in-Blank-clause-executed
@@ -30,7 +30,12 @@ returns-in-Syntax-clause-executed g c =
 
 pub returns-in-It-clause-executed : goal.returns-in-It-clause-executed
 returns-in-It-clause-executed g c =
-    executed_from _ c.args.self.now _ (λ state. says state (codes "?call")) _ c.self.view_is (on_it c.args.self.now c.args.line.now _ _ c.read_line.new.parts.items (placed_line c.args.line.now) c.in-It.ensures.placed) (executed_said _ _ _ _ _ _ (codes "?call") c.say-in-It.ensures)
+    executed_from _ c.args.self.now _ (λ state. it_of known state c.in-It.name (bound_to state.names c.in-It.head) (parts_in c.args.line.now c.as_slice-parts-in-It.result.now)) _ c.self.view_is
+    (ap (λ ps. it_of known c.args.self.now c.in-It.name (bound_to c.args.self.now.names c.in-It.head) (parts_in c.args.line.now ps)) c.as_slice-parts-in-It.ensures.value
+    ∙ on_it c.args.self.now c.args.line.now c.in-It.name c.in-It.head c.read_line.new.parts.items (placed_line c.args.line.now) c.in-It.ensures.placed) c.iterate.ensures
+
+pub iterate-requires : goal.iterate-requires
+iterate-requires g c = short_it c.in-It.name c.in-It.head c.args.line.now c.read_line.new.parts.items c.in-It.ensures.placed
 
 pub returns-in-New-clause-executed : goal.returns-in-New-clause-executed
 returns-in-New-clause-executed g c =
